@@ -9,7 +9,7 @@ use Rattle.ivp_domain.specs.AxisNames.{is_axis_name}
 abbrev pub fields_of : List ℕ → List (List ℕ)
 fields_of text = slice_split (λ byte. byte == 58) text
 
--- an axis by its name, its ends and its number of points, where all of them are good
+-- an axis by its name, its ends and its number of points, if all of them are good
 abbrev pub axis_with : List ℕ → Option ℤ → Option ℤ → Option ℕ → Option Axis
 axis_with name (Some low) (Some high) (Some points) =
     if is_axis_name name then Some (record { name = name; low = low; high = high; points = points }) else None

@@ -15,14 +15,14 @@ pub struct Fields<'a> {
     pub points: &'a [u8],
 }
 
-// Where the first `:` stands.
+// Where the first `:` is.
 fn first_colon(text: &[u8]) -> Option<usize>
     ensures { result ≡ position (λ byte. byte == 58) text.now }
 {
     text.iter().position(|&byte| byte == b':')
 }
 
-// The first field of a text and what stands behind its `:`; `None` exactly where the text is one field.
+// The first field of a text and what follows its `:`; `None` exactly if the text is one field.
 #[tactic(auto, using(crate::proofs::Cuts::fields_one))]
 fn cut_at_colon(text: &[u8]) -> Option<(&[u8], &[u8])>
     ensures { MatchOption result (fields_of text.now ≡ text.now ∷ []) (λ cut. fields_of text.now ≡ cut.0.now ∷ fields_of cut.1.now) }
@@ -33,7 +33,7 @@ fn cut_at_colon(text: &[u8]) -> Option<(&[u8], &[u8])>
     }
 }
 
-/// The fields of a text where they are four.
+/// The fields of a text if they are four.
 pub fn four_fields(text: &[u8]) -> Option<Fields<'_>>
     ensures { MatchOption result (length (fields_of text.now) ≢ 4) (λ fields.
         fields_of text.now ≡ fields.name.now ∷ fields.low.now ∷ fields.high.now ∷ fields.points.now ∷ []) }
@@ -64,7 +64,7 @@ fn axis_with(name: &[u8], low: Milli, high: Milli, points: u32) -> Option<Axis>
     })
 }
 
-/// The axis of four fields: a name, two numbers, and a whole number. None exactly where one of them is bad.
+/// The axis of four fields: a name, two numbers, and a whole number. None exactly if one of them is bad.
 pub fn axis_of(fields: &Fields<'_>) -> Option<Axis>
     ensures { result ≡ axis_from (fields.now.name.now ∷ fields.now.low.now ∷ fields.now.high.now ∷ fields.now.points.now ∷ []) }
 {

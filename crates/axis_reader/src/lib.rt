@@ -1,7 +1,7 @@
 //! Axes as text, and domains of them: what a mission and a problem read in the same way.
 //!
-//! The layer above relies on this: `four_fields` cuts a text at each `:` and gives its fields where they are four, `axis_of`
-//! gives the axis that such fields stand for where all of them are good, and `extended` the domain with one axis more.
+//! The layer above relies on this: `four_fields` cuts a text at each `:` and gives its fields if they are four, `axis_of`
+//! gives the axis that such fields stand for if all of them are good, and `extended` the domain with one axis more.
 #![tactic(auto)]
 
 mod domain;

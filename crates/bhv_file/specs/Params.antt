@@ -105,7 +105,7 @@ with_field shape parameter (Place spot) = with_place shape spot
 with_field shape parameter (ContactName name) = with_contact shape name
 with_field shape parameter (Size size) = with_size shape size
 
--- a behaviour with a parameter's value as it stands in a file, where it is one of its range
+-- a behaviour with a parameter's value as it is in a file, if it is one of its range
 abbrev pub with_value_of : Shape → Parameter → List ℕ → Option Shape
 with_value_of shape parameter value = option_map (with_field shape parameter) (setting_of (value_range parameter) value)
 

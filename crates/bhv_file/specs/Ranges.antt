@@ -23,11 +23,11 @@ InRange other number = Unit {0}
 abbrev pub IsAllowed : Parameter → ℤ → Type 0
 IsAllowed parameter number = InRange (value_range parameter) number
 
--- up to 64 places, and at least one where they must be given
+-- up to 64 places, and at least one if they must be given
 abbrev pub are_places : Bool → List Spot → Bool
 are_places given spots = (nat_le 1 (length spots) || not given) && nat_le (length spots) 64 && are_spots spots
 
--- the vertices of a convex polygon, or none where they needn't be given
+-- the vertices of a convex polygon, or none if they needn't be given
 abbrev pub are_vertices : Bool → List Spot → Bool
 are_vertices given spots = (convex spots || (not given && nat_le (length spots) 0)) && are_spots spots
 
@@ -39,7 +39,7 @@ AvoidsInRanges avoidance =
     × IfSome avoidance.contact_speed (λ speed. IsAllowed ContactSpeed speed) × IfSome avoidance.contact_heading (λ heading. IsAllowed ContactHeading heading)
     × IsAllowed NearDistance avoidance.near × IsAllowed FarDistance avoidance.far × IsTrue (is_piece_size avoidance.piece_size)
 
--- Each parameter is in its range. A list of places may be empty where it needn't be given yet.
+-- Each parameter is in its range. A list of places may be empty if it needn't be given yet.
 abbrev pub InRanges : Bool → Shape → Type 0
 InRanges given (Heading summit peak base delta) = IsAllowed OfHeading summit × IsAllowed PeakWidth peak × IsAllowed BaseWidth base × IsAllowed SummitDelta delta
 InRanges given (Speed summit peak base delta) = IsAllowed OfSpeed summit × IsAllowed PeakWidth peak × IsAllowed BaseWidth base × IsAllowed SummitDelta delta

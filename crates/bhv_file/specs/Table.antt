@@ -1,5 +1,5 @@
--- The table of the parameters of behaviours: under which names each stands in a file, which values it may have, which
--- types have it, and what it is where it isn't given.
+-- The table of the parameters of behaviours: under which names each is in a file, which values it may have, which
+-- types have it, and what it is if it isn't given.
 use Rattle.std.specs.Prelude.{ℕ, pos, neg_ℤ, Bool, true, false, if◌then◌else◌, List, [], ◌∷◌, codes, bytes_eq, find, Option, Some, None}
 use Rattle.std.specs.List.{list_any}
 use Rattle.std.specs.Str.{str_eq_ignore_ascii_case}
@@ -99,7 +99,7 @@ parameters_of (OpRegion polygon depth time) = Polygon ∷ OfMaxDepth ∷ MaxTime
 parameters_of (AvoidCollision avoidance) =
     Contact ∷ ContactX ∷ ContactY ∷ ContactSpeed ∷ ContactHeading ∷ NearDistance ∷ FarDistance ∷ Resolved ∷ PieceSize ∷ []
 
--- a type by its name in a file, and its parameters where they aren't given
+-- a type by its name in a file, and its parameters if they aren't given
 pub record TypeRow : Type 0 where
   pub type : List ℕ
   pub defaults : Shape

@@ -23,7 +23,7 @@ is_good_over axes shape = is_consistent shape && has_few_boxes axes shape
 abbrev pub update_parts : List ℕ → List (List ℕ)
 update_parts text = slice_split (λ byte. byte == 35) text
 
--- the behaviour with one part more, where that is a parameter of it, a `=` and a good value
+-- the behaviour with one part more, if that is a parameter of it, a `=` and a good value
 abbrev pub with_update_part : Option Spec → List ℕ → Option Spec
 with_update_part None part = None
 with_update_part (Some spec) part = option_and_then (λ sides. with_param spec sides.name sides.value) (sides_of part)

@@ -11,7 +11,7 @@ use Rattle.bhv_file.specs.declared.setting.Setting.TheVariants.{Number, Time, Fl
 use Rattle.bhv_file.specs.declared.table.ValueRange.{ValueRange}
 use Rattle.bhv_file.specs.declared.table.ValueRange.TheVariants.{Number as OfNumber, Time as OfTime, Flag as OfFlag, Order as OfOrder, Repeat as OfRepeat, Places as OfPlaces, Polygon as OfPolygon, Place as OfPlace, Contact as OfContact, Size as OfSize}
 
--- what was read, where it passes a test
+-- what was read, if it passes a test
 abbrev pub kept_if : {A : Type 0} → (A → Bool) → Option A → Option A
 kept_if test None = None
 kept_if test (Some x) = if test x then Some x else None
@@ -69,12 +69,12 @@ spot_of_parts parts = None
 abbrev pub spot_of_text : List ℕ → Option Spot
 spot_of_text text = spot_of_parts (slice_split (λ byte. byte == 44) text)
 
--- all of them, where each is there
+-- all of them, if each is there
 abbrev pub all_of : {A : Type 0} → List (Option A) → Option (List A)
 all_of [] = Some []
 all_of (first ∷ more) = option_and_then (λ x. option_map (λ xs. x ∷ xs) (all_of more)) first
 
--- the text without a `pts={` in front and a `}` behind, where it has both
+-- the text without a `pts={` in front and a `}` behind, if it has both
 abbrev pub without_pts : List ℕ → List ℕ
 without_pts text = if bytes_eq (take 5 text) (codes "pts={") && ends_with 125 text then without_last 125 (drop 5 text) else text
 
@@ -119,7 +119,7 @@ is_piece_size number = nat_le 1 number && nat_le number 268435456
 abbrev pub piece_size_of : List ℕ → Option ℕ
 piece_size_of text = kept_if is_piece_size (whole_of text)
 
--- What a value of a parameter says, where it is one of its range.
+-- What a value of a parameter says, if it is one of its range.
 abbrev pub setting_of : ValueRange → List ℕ → Option Setting
 setting_of (OfNumber low high) text = option_map Number (number_value low high text)
 setting_of OfTime text = option_map Time (time_value text)

@@ -12,10 +12,10 @@ pub type Decls = List<Decl>;
 #[derive(Drop)]
 pub struct Decl {
     pub name: Name,
-    /// The number of the declaration under which it stands, or None of a root.
+    /// The number of the declaration under which it is, or None of a root.
     pub parent: Option<u32>,
     /// Its conditions, the line that names its parent too.
     pub conds: Conds,
-    /// The last part of a mode where none of its siblings' conditions hold.
+    /// The last part of a mode if none of its siblings' conditions hold.
     pub other: Option<Name>,
 }

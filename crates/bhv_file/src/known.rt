@@ -8,7 +8,7 @@ use helm_cond::Info;
 use helm_geo::Spot;
 use moos_post::Value;
 
-/// The latest value of a variable in thousandths, where it is a number.
+/// The latest value of a variable in thousandths, if it is a number.
 pub fn latest_number(info: &Info, var: &[u8]) -> Option<i64>
     ensures number { result ≡ latest_number (knowledge_of info.now) var.now }
     ensures within { IfSome result (λ number. IsTrue (is_coordinate number)) }
@@ -19,7 +19,7 @@ pub fn latest_number(info: &Info, var: &[u8]) -> Option<i64>
     }
 }
 
-/// The own position, where both its numbers are known.
+/// The own position, if both its numbers are known.
 pub fn position(info: &Info) -> Option<Spot>
     ensures spot { result ≡ position_of (knowledge_of info.now) }
     ensures within { IfSome result (λ spot. IsTrue (is_spot spot)) }

@@ -15,7 +15,7 @@ pub enum BhvFault {
 }
 
 /// What a step of a behaviour gives: a function over the domain or none, which of the axes that function mentions, whether
-/// the behaviour is done, and a fault or none. Where there is no function no axis is mentioned.
+/// the behaviour is done, and a fault or none. If there is no function no axis is mentioned.
 #[derive(Drop)]
 pub struct Out {
     pub func: Option<Func>,

@@ -14,7 +14,7 @@ use std::alloc::Global;
 // The most places of a list.
 const MOST_PLACES: usize = 64;
 
-/// A list of 1 to 64 places; None exactly where the text is none.
+/// A list of 1 to 64 places; None exactly if the text is none.
 pub fn read_places(alloc: Global, text: &[u8]) -> Result<Option<Spots>, NoMemory>
     ensures spots { IfOk result (λ spots. spots ≡ spots_of text.now) }
     ensures within { IfOk result (λ spots. IfSome spots (λ spots. IsTrue (are_spots spots))) }
@@ -65,7 +65,7 @@ fn read_between(alloc: Global, text: &[u8]) -> Result<Option<Spots>, NoMemory>
     Ok(Some(Spots::of(spots)))
 }
 
-/// The vertices of a convex polygon; None exactly where the text is none.
+/// The vertices of a convex polygon; None exactly if the text is none.
 pub fn read_polygon(alloc: Global, text: &[u8]) -> Result<Option<Spots>, NoMemory>
     ensures { IfOk result (λ spots. spots ≡ polygon_of text.now) }
 {
@@ -79,7 +79,7 @@ pub fn read_polygon(alloc: Global, text: &[u8]) -> Result<Option<Spots>, NoMemor
     }
 }
 
-/// One place; None exactly where the text is none.
+/// One place; None exactly if the text is none.
 pub fn read_only_place(alloc: Global, text: &[u8]) -> Result<Option<Spot>, NoMemory>
     ensures { IfOk result (λ spot. spot ≡ spot_of text.now) }
 {
@@ -99,7 +99,7 @@ fn only_spot(spots: &[Spot]) -> Option<Spot>
     }
 }
 
-// What stands before the first such byte, and what stands behind it where there is one.
+// What is before the first such byte, and what follows it if there is one.
 fn cut_at(text: &[u8], byte: u8) -> (&[u8], Option<&[u8]>)
     ensures cut { MatchOption result.1 (slice_split (λ b. b == byte) text.now ≡ result.0.now ∷ [])
         (λ behind. slice_split (λ b. b == byte) text.now ≡ result.0.now ∷ slice_split (λ b. b == byte) behind.now) }
@@ -111,7 +111,7 @@ fn cut_at(text: &[u8], byte: u8) -> (&[u8], Option<&[u8]>)
     }
 }
 
-// Where the first such byte stands.
+// Where the first such byte is.
 fn place_of(text: &[u8], byte: u8) -> Option<usize>
     ensures { result ≡ position (λ b. b == byte) text.now }
 {
@@ -130,7 +130,7 @@ fn read_spot(text: &[u8]) -> Option<Spot>
     }
 }
 
-// The same by what stands before the first comma and behind it.
+// The same by what is before the first comma and behind it.
 fn read_north(x: &[u8], behind: &[u8]) -> Option<Spot>
     ensures spot { result ≡ spot_of_parts (x.now ∷ slice_split (λ b. b == 44) behind.now) }
     ensures within { IfSome result (λ spot. IsTrue (is_spot spot)) }

@@ -144,7 +144,7 @@ fn put_size(shape: &mut Shape, size: u32)
     }
 }
 
-/// Sets a parameter of a behaviour's type to a value as it stands in a file. False exactly where that isn't in the range.
+/// Sets a parameter of a behaviour's type to a value as it is in a file. False exactly if that isn't in the range.
 pub fn set_value(
     alloc: Global,
     shape: &mut Shape,
@@ -197,8 +197,8 @@ fn set_in_range(
     }
 }
 
-/// Sets one parameter of a behaviour to a value as it stands in a file: `pwt`, or a parameter of its type. False exactly
-/// where it has none of this name or the value isn't in its range; then nothing changed, nor where no memory was left.
+/// Sets one parameter of a behaviour to a value as it is in a file: `pwt`, or a parameter of its type. False exactly
+/// if it has none of this name or the value isn't in its range; then nothing changed, nor if no memory was left.
 /// Relations between parameters aren't judged.
 pub fn set_param(
     alloc: Global,

@@ -14,7 +14,7 @@ const MOST_BOXES: u64 = 4096;
 // The highest speed over which closest approaches are worked out, in thousandths of a metre a second.
 const MOST_SPEED: i64 = 100_000;
 
-// Whether a domain is cut into at most 4,096 boxes of a behaviour's piece size, where it has one.
+// Whether a domain is cut into at most 4,096 boxes of a behaviour's piece size, if it has one.
 pub(crate) fn has_few_boxes(domain: &Domain, shape: &Shape) -> bool
     requires { InRanges true shape.now }
     ensures { result ≡ has_few_boxes domain.now shape.now }
@@ -27,7 +27,7 @@ pub(crate) fn has_few_boxes(domain: &Domain, shape: &Shape) -> bool
     }
 }
 
-/// Whether a domain suits a behaviour: where that keeps clear of a contact, the axis of speed lies within 0 to 100 m/s, if
+/// Whether a domain suits a behaviour: if that keeps clear of a contact, the axis of speed lies within 0 to 100 m/s, if
 /// there is one, and the boxes of its piece size are at most 4,096. It suits every other one.
 pub fn suits(domain: &Domain, shape: &Shape) -> bool
     requires { InRanges true shape.now }
@@ -39,7 +39,7 @@ pub fn suits(domain: &Domain, shape: &Shape) -> bool
     }
 }
 
-// Whether the axis of speed lies within 0 to 100, where there is one.
+// Whether the axis of speed lies within 0 to 100, if there is one.
 #[tactic(auto, using(crate::proofs::Named::axis_named))]
 fn is_slow(domain: &Domain) -> bool
     ensures { result ≡ is_slow domain.now }

@@ -23,7 +23,7 @@ pub enum Setting {
     Size(u32),
 }
 
-/// What a value of a parameter says; None exactly where it isn't in the range.
+/// What a value of a parameter says; None exactly if it isn't in the range.
 pub fn read_setting(
     alloc: Global,
     range: ValueRange,
@@ -65,7 +65,7 @@ fn read_time(text: &[u8]) -> Option<u64>
     Some(number as u64)
 }
 
-/// How long a behaviour lasts, in milliseconds, where it isn't for ever.
+/// How long a behaviour lasts, in milliseconds, if it isn't for ever.
 pub fn read_duration(text: &[u8]) -> Option<Option<u64>>
     ensures { result ≡ duration_of text.now }
 {

@@ -1,5 +1,5 @@
-// The table of the parameters of behaviours: under which names each stands in a file, which values it may have, and which
-// types have it. `put` says in which field it is, and `types` what it is where it isn't given.
+// The table of the parameters of behaviours: under which names each is in a file, which values it may have, and which
+// types have it. `put` says in which field it is, and `types` what it is if it isn't given.
 ghost use Rattle.std.specs.Prelude.{◌≡◌, find};
 ghost use Rattle.bhv_file.specs.Table.{common_named, is_called, is_needed, parameter_of, value_range, states_common};
 
@@ -165,7 +165,7 @@ pub fn is_needed(parameter: Parameter) -> bool
     )
 }
 
-// The first of these parameters that has this name. The names of a type stand in the code, so that their lengths tell most of
+// The first of these parameters that has this name. The names of a type are in the code, so that their lengths tell most of
 // them apart at once and no list is walked for a line.
 macro_rules! first_called {
     ($name:expr; $($parameter:ident),+) => {
@@ -177,7 +177,7 @@ macro_rules! first_called {
     };
 }
 
-/// The parameter of a behaviour's type that has this name, where one does.
+/// The parameter of a behaviour's type that has this name, if one does.
 pub fn parameter_named(shape: &Shape, name: &[u8]) -> Option<Parameter>
     ensures { result ≡ parameter_of shape.now name.now }
 {
@@ -242,7 +242,7 @@ pub fn is_common_name(parameter: CommonParameter, name: &[u8]) -> bool
     }
 }
 
-/// The common parameter of this name, where one has it.
+/// The common parameter of this name, if one has it.
 pub fn common_named(name: &[u8]) -> Option<CommonParameter>
     ensures { result ≡ common_named name.now }
 {

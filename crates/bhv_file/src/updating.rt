@@ -9,6 +9,7 @@ ghost use Rattle.bhv_file.specs.Validity.{IsValidSpec};
 ghost use Rattle.bhv_file.specs.Updates.{is_consistent, is_good_over, is_of_places, update_parts, updated, with_update_part};
 
 use crate::put::set_param;
+use crate::relations::{keeps_relations, lacks_places};
 use crate::serving::has_few_boxes;
 use crate::spec::{Shape, Spec};
 use ivp_domain::Domain;
@@ -16,7 +17,7 @@ use moos_post::{Copied, NoMemory};
 use moos_text::{cut_at_equals, is_named};
 use std::alloc::Global;
 
-/// The parameters after an update over a domain: None exactly where one of its pairs isn't good or, after all of them, a
+/// The parameters after an update over a domain: None exactly if one of its pairs isn't good or, after all of them, a
 /// relation between parameters fails or the boxes of a piece size are more than 4,096.
 #[tactic(auto, using(crate::proofs::Pairwise::judged, crate::proofs::Pairwise::good_valid))]
 pub fn updated(
@@ -37,7 +38,7 @@ pub fn updated(
     }
 }
 
-/// The same where the behaviour doesn't keep clear of a contact, so that a domain makes no difference.
+/// The same if the behaviour doesn't keep clear of a contact, so that a domain makes no difference.
 #[tactic(auto, using(crate::proofs::Pairwise::judged_anywhere, crate::proofs::Pairwise::consistent, crate::proofs::Pairwise::pairs_other))]
 pub fn updated_anywhere(alloc: Global, spec: &Spec, text: &[u8]) -> Result<Option<Spec>, NoMemory>
     requires valid { IsValidSpec spec.now }
@@ -54,7 +55,7 @@ pub fn updated_anywhere(alloc: Global, spec: &Spec, text: &[u8]) -> Result<Optio
     }
 }
 
-// Sets the parameters of each pair in an update, one after the other. False exactly where one of them isn't good.
+// Sets the parameters of each pair in an update, one after the other. False exactly if one of them isn't good.
 #[tactic(auto, using(crate::proofs::Pairwise::none_after, crate::proofs::Pairwise::pairs_behind))]
 fn set_pairs(alloc: Global, spec: &mut Spec, text: &[u8]) -> Result<bool, NoMemory>
     ensures good { IfOk result (λ good. fold with_update_part (Some spec.old) (update_parts text.now) ≡ (if good then Some spec.new else None)) }
@@ -71,7 +72,7 @@ fn set_pairs(alloc: Global, spec: &mut Spec, text: &[u8]) -> Result<bool, NoMemo
     Ok(true)
 }
 
-// The first pair of an update, and what stands behind the `#` that ends it where one does.
+// The first pair of an update, and what follows the `#` that ends it if one does.
 fn cut_pair(text: &[u8]) -> (&[u8], Option<&[u8]>)
     ensures cut { MatchOption result.1 (update_parts text.now ≡ result.0.now ∷ [])
         (λ behind. update_parts text.now ≡ result.0.now ∷ update_parts behind.now) }
@@ -83,7 +84,7 @@ fn cut_pair(text: &[u8]) -> (&[u8], Option<&[u8]>)
     }
 }
 
-// Where the first `#` stands.
+// Where the first `#` is.
 fn pair_end(text: &[u8]) -> Option<usize>
     ensures { result ≡ position (λ byte. byte == 35) text.now }
 {
@@ -140,17 +141,5 @@ fn is_good_over(domain: &Domain, shape: &Shape) -> bool
 fn is_consistent(shape: &Shape) -> bool
     ensures { result ≡ is_consistent shape.now }
 {
-    match shape {
-        Shape::Waypoint { points, .. } => points.len() > 0,
-        Shape::Loiter { polygon, .. } => polygon.len() > 0,
-        Shape::StationKeep {
-            station_pt,
-            center_activate,
-            inner_radius,
-            outer_radius,
-            ..
-        } => *inner_radius < *outer_radius && (station_pt.is_some() || *center_activate),
-        Shape::AvoidCollision(avoidance) => avoidance.near < avoidance.far,
-        _ => true,
-    }
+    keeps_relations(shape) && !lacks_places(shape)
 }

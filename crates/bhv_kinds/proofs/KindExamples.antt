@@ -13,7 +13,7 @@ use Rattle.ivp_domain.specs.declared.axis.Axis.{Axis}
 use Rattle.std.proofs.lemmas.Bool.{and_from}
 use Rattle.bhv_file.specs.Updates.{gives_places, updated}
 use Rattle.bhv_file.specs.Known.{position_of}
-use Rattle.bhv_kinds.specs.Turns.{KindTurn, Stepped, Updated, first_step, params_at}
+use Rattle.bhv_kinds.specs.Changes.{KindChange, Stepped, Updated, first_step, params_at}
 use Rattle.bhv_kinds.specs.declared.waypoint.Headway.{Headway}
 use Rattle.bhv_kinds.specs.Targets.{first_headway, headway_at, vertex_at}
 use Rattle.bhv_kinds.specs.Stations.{centre_at}
@@ -24,24 +24,24 @@ spot x y = record { x = pos (x * 1000); y = pos (y * 1000) }
 abbrev spec : Shape → Spec
 spec shape = record { weight = 100000; shape = shape }
 
--- a ship at a place in thousandths, and one whose north isn't a number
+-- a vehicle at a place in thousandths, and one whose north isn't a number
 abbrev ship_at : ℕ → ℕ → Knowledge
 ship_at x y var = if bytes_eq var (codes "NAV_X") then Some (Num (pos x)) else if bytes_eq var (codes "NAV_Y") then Some (Num (pos y)) else None
 
 abbrev ship_lost : Knowledge
 ship_lost var = if bytes_eq var (codes "NAV_X") then Some (Num (pos 1)) else if bytes_eq var (codes "NAV_Y") then Some (Text (codes "4")) else None
 
-abbrev step : Knowledge → Bool → KindTurn
+abbrev step : Knowledge → Bool → KindChange
 step known fresh = Stepped (record { axes = []; known = known; stamp = 7000; fresh = fresh })
 
 -- a step at (x, 0), one without a position, and a fresh one
-abbrev at : ℕ → KindTurn
+abbrev at : ℕ → KindChange
 at x = step (ship_at x 0) false
 
-abbrev lost : KindTurn
+abbrev lost : KindChange
 lost = step ship_lost false
 
-abbrev fresh : ℕ → ℕ → KindTurn
+abbrev fresh : ℕ → ℕ → KindChange
 fresh x y = step (ship_at x y) true
 
 -- a waypoint behaviour of these points and repeats: capture at 3, slip at 5

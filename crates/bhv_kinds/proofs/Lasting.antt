@@ -13,7 +13,7 @@ use Rattle.bhv_file.specs.Table.{parameter_of, states_common}
 use Rattle.bhv_file.specs.Validity.{IsValidSpec}
 use Rattle.bhv_file.specs.Values.{weight_of}
 use Rattle.bhv_file.proofs.Ranged.{own_kept, weight_within}
-use Rattle.bhv_kinds.specs.Turns.{KindTurn, Stepped, Updated, params_at}
+use Rattle.bhv_kinds.specs.Changes.{KindChange, Stepped, Updated, params_at}
 use Rattle.bhv_file.specs.Updates.{update_parts, updated, with_update_part}
 use Rattle.bhv_file.proofs.Pairwise.{good_valid, none_after, updated_axes, updated_good}
 
@@ -58,7 +58,7 @@ updated_valid axes spec after text is e =
     good_valid axes after (pairs_ranges spec after (update_parts text) is good.0) good.1
 
 -- so the parameters stay valid
-pub params_valid : (spec : Spec) (turns : List KindTurn) → IsValidSpec spec → IsValidSpec (params_at spec turns)
+pub params_valid : (spec : Spec) (changes : List KindChange) → IsValidSpec spec → IsValidSpec (params_at spec changes)
 params_valid spec [] valid = valid
 params_valid spec (Stepped step ∷ past) valid = params_valid spec past valid
 params_valid spec (Updated axes text ∷ past) valid = by (updated axes (params_at spec past) text) refl (params_valid spec past valid)
@@ -68,7 +68,7 @@ params_valid spec (Updated axes text ∷ past) valid = by (updated axes (params_
     by (Some after) e before = updated_valid axes (params_at spec past) after text before.ranges e
 
 -- and the type needs the same axes
-pub params_axes : (spec : Spec) (turns : List KindTurn) → axes_of (params_at spec turns).shape ≡ axes_of spec.shape
+pub params_axes : (spec : Spec) (changes : List KindChange) → axes_of (params_at spec changes).shape ≡ axes_of spec.shape
 params_axes spec [] = refl
 params_axes spec (Stepped step ∷ past) = params_axes spec past
 params_axes spec (Updated axes text ∷ past) = by (updated axes (params_at spec past) text) refl (params_axes spec past)

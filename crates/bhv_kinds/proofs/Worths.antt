@@ -31,7 +31,7 @@ use Rattle.bhv_kinds.specs.Targets.{spot_at, target_number}
 use Rattle.bhv_file.specs.Named.{axis_number}
 use Rattle.bhv_kinds.specs.Utilities.{Utility, AtMostOn, Clear, Flat, PeakOn, Sum, cruise, function_of, steer, utility_pieces, worth_at}
 use Rattle.bhv_kinds.specs.Worths.{IsWorth, StepsAreWorth}
-use Rattle.bhv_kinds.specs.Turns.{params_at}
+use Rattle.bhv_kinds.specs.Changes.{params_at}
 use Rattle.bhv_kinds.proofs.Lasting.{params_axes, params_valid}
 use Rattle.std.specs.List.{list_all}
 use Rattle.bhv_file.proofs.Named.{named_at}
@@ -193,11 +193,11 @@ gives_fits axes (AvoidCollision avoidance) known found ranges has = by avoidance
 
 -- so each step of a behaviour with valid parameters is worth what it gives
 pub steps_worth : ShapesAreWorth → StepsAreWorth
-steps_worth law spec turns step valid lawful has =
-    let params = params_at spec turns in
+steps_worth law spec changes step valid lawful has =
+    let params = params_at spec changes in
     let axes = step.axes in
-    let here : has_axes axes params.shape ≡ true = ap (list_all (has_axis axes)) (params_axes spec turns) ∙ has in
-    given_worth law axes lawful (gives_at spec turns step).utility (gives_fits axes params.shape step.known (situation_at spec turns step) (params_valid spec turns valid).ranges.parameters here)
+    let here : has_axes axes params.shape ≡ true = ap (list_all (has_axis axes)) (params_axes spec changes) ∙ has in
+    given_worth law axes lawful (gives_at spec changes step).utility (gives_fits axes params.shape step.known (situation_at spec changes step) (params_valid spec changes valid).ranges.parameters here)
 
 -- and so is that of a kind
 pub step_worth : ShapesAreWorth → (axes : List Axis) → is_domain axes ≡ true → (own params : Spec) (known : Knowledge) (found : Situation) (given : Given) (out : Out) → own ≡ params → InRanges true own.shape → has_axes axes own.shape ≡ true

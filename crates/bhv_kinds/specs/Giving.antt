@@ -17,7 +17,7 @@ use Rattle.bhv_kinds.specs.declared.situation.Situation.{Situation}
 use Rattle.contact_avoid.specs.Avoids.{track_in}
 use Rattle.bhv_kinds.specs.Utilities.{Utility, AtMostOn, Clear, Flat, Sum, cruise, function_of, peak_of, steer}
 use Rattle.bhv_file.specs.Known.{latest_number, position_of}
-use Rattle.bhv_kinds.specs.Turns.{KindStep, KindTurn, Stepped, first_step, params_at}
+use Rattle.bhv_kinds.specs.Changes.{KindStep, KindChange, Stepped, first_step, params_at}
 use Rattle.bhv_kinds.specs.Targets.{captures, headway_at, is_last, spot_at, target_number, vertex_at}
 use Rattle.bhv_kinds.specs.Stations.{centre_at, distance_of, return_speed}
 use Rattle.bhv_kinds.specs.Regions.{depth_fault, late_fault, outside_fault, region_fault}
@@ -44,7 +44,7 @@ all_done = record { utility = None; done = true; fault = None }
 abbrev pub towards : ℕ → Spot → Spot → Option Utility
 towards speed place here = option_map (λ degree. Sum (steer degree) (cruise speed)) (bearing (place.x -ℤ here.x) (place.y -ℤ here.y))
 
--- what a position gives, without which there is a fault
+-- what a position gives; if it isn't known, there is a fault
 abbrev pub given_here : (Spot → Option Utility) → Option Spot → Given
 given_here utility None = raises (Some NoPosition)
 given_here utility (Some here) = gives (utility here)
@@ -55,15 +55,15 @@ keeping inner outer speed station here =
     let distance = distance_of here station in
     if nat_le distance inner then Some (Sum (Flat 0) (cruise 0)) else towards (return_speed inner outer speed distance) station here
 
--- to go to the place of this number, where there is one
+-- to go to the place of this number, if there is one
 abbrev pub towards_number : ℕ → List Spot → Option ℕ → Spot → Option Utility
 towards_number speed places number here = option_and_then (λ n. towards speed (spot_at places n) here) number
 
--- to keep this station, where there is one
+-- to keep this station, if there is one
 abbrev pub keeping_station : ℕ → ℕ → ℕ → Option Spot → Spot → Option Utility
 keeping_station inner outer speed station here = option_and_then (λ spot. keeping inner outer speed spot here) station
 
--- to keep clear of a contact, where it is known how that moves
+-- to keep clear of a contact, if it is known how that moves
 abbrev pub keeping_clear : Avoidance → Spot → Option Utility
 keeping_clear avoidance here = option_map (Clear avoidance here) (track_in avoidance)
 
@@ -83,12 +83,12 @@ gives_by_type (OpRegion polygon depth time) known found =
     raises (region_fault (outside_fault polygon found.here) (depth_fault depth (latest_number known (codes "NAV_DEPTH"))) (late_fault time found.time))
 gives_by_type (AvoidCollision avoidance) known found = if avoidance.resolved then all_done else given_here (keeping_clear avoidance) found.here
 
--- a step behind these turns captures the last target for the last time
-abbrev pub finishes_at : Spec → List KindTurn → KindStep → Bool
+-- a step behind these changes captures the last target for the last time
+abbrev pub finishes_at : Spec → List KindChange → KindStep → Bool
 finishes_at spec past step = is_last (params_at spec past).shape (headway_at spec past) && captures spec past (headway_at spec past) step
 
--- what a step behind these turns finds
-abbrev pub situation_at : Spec → List KindTurn → KindStep → Situation
+-- what a step behind these changes finds
+abbrev pub situation_at : Spec → List KindChange → KindStep → Situation
 situation_at spec past step = record {
   here = position_of step.known;
   finished = finishes_at spec past step;
@@ -98,8 +98,8 @@ situation_at spec past step = record {
   time = step.stamp - unwrap_or (first_step past) step.stamp;
 }
 
--- What a step gives after these turns, by the parameters that hold then.
-abbrev pub gives_at : Spec → List KindTurn → KindStep → Given
+-- What a step gives after these changes, by the parameters that hold then.
+abbrev pub gives_at : Spec → List KindChange → KindStep → Given
 gives_at spec past step = gives_by_type (params_at spec past).shape step.known (situation_at spec past step)
 
 -- a name is among these
@@ -118,5 +118,5 @@ out_of axes names given = record {
 }
 
 -- What a step gives over its domain: a function mentions the axes that its type needs.
-abbrev pub out_at : Spec → List KindTurn → KindStep → Out
+abbrev pub out_at : Spec → List KindChange → KindStep → Out
 out_at spec past step = out_of step.axes (axes_of (params_at spec past).shape) (gives_at spec past step)

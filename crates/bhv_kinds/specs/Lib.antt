@@ -1,4 +1,4 @@
-pub mod Turns
+pub mod Changes
 pub mod Utilities
 pub mod Targets
 pub mod Stations

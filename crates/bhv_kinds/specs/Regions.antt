@@ -1,4 +1,4 @@
--- Operating regions: what is wrong with where and when the ship is.
+-- Operating regions: what is wrong with where and when the vehicle is.
 use Rattle.std.specs.Prelude.{ℕ, ℤ, nat_le, int_lt, Bool, not, if◌then◌else◌, List, Option, Some, None}
 use Rattle.std.specs.Option.{option_or}
 use Rattle.helm_geo.specs.declared.spot.Spot.{Spot}
@@ -6,22 +6,22 @@ use Rattle.helm_geo.specs.Polygons.{inside}
 use Rattle.bhv_file.specs.declared.out.BhvFault.{BhvFault}
 use Rattle.bhv_file.specs.declared.out.BhvFault.TheVariants.{NoPosition, OutsidePolygon, TooDeep, TooLate}
 
--- the fault, where the test says so
+-- the fault, if the test says so
 abbrev pub fault_if : Bool → BhvFault → Option BhvFault
 fault_if wrong fault = if wrong then Some fault else None
 
--- the fault of a position against a polygon, where there is one
+-- the fault of a position against a polygon, if there is one
 abbrev pub outside_fault : Option (List Spot) → Option Spot → Option BhvFault
 outside_fault None here = None
 outside_fault (Some polygon) None = Some NoPosition
 outside_fault (Some polygon) (Some here) = fault_if (not (inside polygon here)) OutsidePolygon
 
--- the fault of a depth against the greatest one, where both are known
+-- the fault of a depth against the greatest one, if both are known
 abbrev pub depth_fault : Option ℤ → Option ℤ → Option BhvFault
 depth_fault (Some limit) (Some depth) = fault_if (int_lt limit depth) TooDeep
 depth_fault limit depth = None
 
--- the fault of the time since the first step against the longest one, where there is one
+-- the fault of the time since the first step against the longest one, if there is one
 abbrev pub late_fault : Option ℕ → ℕ → Option BhvFault
 late_fault None time = None
 late_fault (Some limit) time = fault_if (nat_le limit time) TooLate

@@ -1,17 +1,17 @@
--- Keeping a station: where it is, and how fast the ship goes back to it.
+-- Keeping a station: where it is, and how fast the vehicle goes back to it.
 use Rattle.std.specs.Prelude.{ℕ, ◌-◌, ◌*◌, ◌/◌, nat_le, Bool, if◌then◌else◌, List, [], ◌∷◌, Option, None}
 use Rattle.std.specs.Option.{option_or}
 use Rattle.helm_geo.specs.declared.spot.Spot.{Spot}
 use Rattle.helm_geo.specs.Plane.{distance_squared, isqrt}
 use Rattle.bhv_file.specs.Known.{position_of}
-use Rattle.bhv_kinds.specs.Turns.{KindTurn, Updated, Stepped}
+use Rattle.bhv_kinds.specs.Changes.{KindChange, Updated, Stepped}
 
--- the centre after a step: where it stands, unless it is taken anew or wasn't known before
+-- the centre after a step: where it is, unless it is taken anew or wasn't known before
 abbrev pub centre_after : Bool → Option Spot → Option Spot → Option Spot
 centre_after fresh centre here = if fresh then here else option_or centre here
 
--- where the ship was at the first step with a known position since the last fresh one
-abbrev pub centre_at : List KindTurn → Option Spot
+-- where the vehicle was at the first step with a known position since the last fresh one
+abbrev pub centre_at : List KindChange → Option Spot
 centre_at [] = None
 centre_at (Updated axes text ∷ past) = centre_at past
 centre_at (Stepped step ∷ past) = centre_after step.fresh (centre_at past) (position_of step.known)

@@ -9,24 +9,24 @@ use Rattle.bhv_file.specs.declared.spec.Spec.{Spec}
 use Rattle.bhv_kinds.specs.declared.waypoint.Headway.{Headway}
 use Rattle.bhv_file.specs.Updates.{gives_places}
 use Rattle.bhv_file.specs.Known.{position_of}
-use Rattle.bhv_kinds.specs.Turns.{KindStep, KindTurn, Updated, Stepped, params_at, params_at_step}
+use Rattle.bhv_kinds.specs.Changes.{KindStep, KindChange, Updated, Stepped, params_at, params_at_step}
 
 -- the place of this number in a list
 abbrev pub spot_at : List Spot → ℕ → Spot
 spot_at places number = unwrap_or (slice_get places number) (record { x = pos 0; y = pos 0 })
 
--- where the last step found the ship, unless the places were given anew since
-abbrev pub last_position : Spec → List KindTurn → Option Spot
+-- if the last step found the vehicle, unless the places were given anew since
+abbrev pub last_position : Spec → List KindChange → Option Spot
 last_position spec [] = None
 last_position spec (Updated axes text ∷ past) = if gives_places axes (params_at spec past) text then None else last_position spec past
 last_position spec (Stepped step ∷ past) = position_of step.known
 
--- the ship was within the slip radius and is farther away now
+-- the vehicle was within the slip radius and is farther away now
 abbrev pub has_slipped : ℕ → Spot → Option Spot → Spot → Bool
 has_slipped slip target None now = false
 has_slipped slip target (Some before) now = within before target slip && nat_lt (distance_squared before target) (distance_squared now target)
 
--- The target is captured within the capture radius, or where it was the target before and is slipped past.
+-- The target is captured within the capture radius, or if it was the target before and is slipped past.
 abbrev pub is_captured : ℕ → ℕ → Spot → Bool → Option Spot → Spot → Bool
 is_captured capture slip target same before now = within now target capture || (same && has_slipped slip target before now)
 
@@ -76,13 +76,13 @@ abbrev pub headway_after : Shape → Bool → Headway → Headway
 headway_after (Waypoint points speed capture slip reverse repeat) true headway = with_captured points repeat headway
 headway_after other captured headway = headway
 
--- a step behind these turns captures the target of a waypoint behaviour that has come so far
-abbrev pub captures : Spec → List KindTurn → Headway → KindStep → Bool
+-- a step behind these changes captures the target of a waypoint behaviour that has come so far
+abbrev pub captures : Spec → List KindChange → Headway → KindStep → Bool
 captures spec past headway step =
     captures_at (params_at spec past).shape (is_reversed (params_at_step spec past).shape) headway.captured (last_position spec past) (position_of step.known)
 
--- How far a waypoint behaviour has come after these turns: an update of the points begins at the first.
-abbrev pub headway_at : Spec → List KindTurn → Headway
+-- How far a waypoint behaviour has come after these changes: an update of the points begins at the first.
+abbrev pub headway_at : Spec → List KindChange → Headway
 headway_at spec [] = first_headway
 headway_at spec (Updated axes text ∷ past) =
     if gives_places axes (params_at spec past) text then record { captured = 0; again = (headway_at spec past).again } else headway_at spec past
@@ -119,12 +119,12 @@ captures_vertex (Loiter polygon speed capture slip clockwise) vertex old before 
     is_captured (nat_abs capture) (nat_abs slip) (spot_at polygon vertex) (is_number vertex old) before now
 captures_vertex other vertex old before now = false
 
--- the vertex after one that a step makes for: the next, where it is captured
+-- the vertex after one that a step makes for: the next, if it is captured
 abbrev pub vertex_beyond : Shape → ℕ → Bool → ℕ
 vertex_beyond (Loiter polygon speed capture slip clockwise) vertex true = next_vertex polygon clockwise vertex
 vertex_beyond other vertex captured = vertex
 
--- the vertex after a step at a place: it makes for the one before, or for the nearest where none was chosen
+-- the vertex after a step at a place: it makes for the one before, or for the nearest if none was chosen
 abbrev pub vertex_after : Shape → Option ℕ → Option ℕ → Option Spot → Option Spot → Option ℕ
 vertex_after (Loiter polygon speed capture slip clockwise) old chosen before (Some now) =
     let shape = Loiter polygon speed capture slip clockwise in
@@ -136,8 +136,8 @@ vertex_after other old chosen before now = chosen
 abbrev pub unless_fresh : Bool → Option ℕ → Option ℕ
 unless_fresh fresh vertex = if fresh then None else vertex
 
--- The vertex that a loiter behaviour makes for after these turns: none where it is to be chosen anew.
-abbrev pub vertex_at : Spec → List KindTurn → Option ℕ
+-- The vertex that a loiter behaviour makes for after these changes: none if it is to be chosen anew.
+abbrev pub vertex_at : Spec → List KindChange → Option ℕ
 vertex_at spec [] = None
 vertex_at spec (Updated axes text ∷ past) = if gives_places axes (params_at spec past) text then None else vertex_at spec past
 vertex_at spec (Stepped step ∷ past) =

@@ -15,7 +15,7 @@ use Rattle.contact_avoid.specs.declared.motion.Track.{Track}
 use Rattle.contact_avoid.specs.Avoids.{clearance_pieces, sampled_clearance}
 
 -- what a behaviour wants: one value everywhere, a peak or an upper limit on an axis, the sum of two, or to keep clear of a contact
--- that moves so, from where the ship is
+-- that moves so, from where the vehicle is
 pub data Utility : Type 0 where
   Flat : ℕ → Utility
   PeakOn : List ℕ → Peak → Utility

@@ -53,7 +53,7 @@ fn all_done() -> Aim
     }
 }
 
-// To go to the place of a number in a list, where there is one.
+// To go to the place of a number in a list, if there is one.
 fn towards_number(speed: u64, places: &[Spot], number: Option<usize>, here: &Spot) -> Option<Want>
     requires speed { speed ≤ 10 ^ 6 }
     requires places { IsTrue (are_spots places.now) }
@@ -67,7 +67,7 @@ fn towards_number(speed: u64, places: &[Spot], number: Option<usize>, here: &Spo
     }
 }
 
-// The same by the position, without which there is a fault.
+// The same by the own position. If it isn't known, there is a fault.
 fn go(speed: u64, places: &[Spot], number: Option<usize>, here: Option<Spot>) -> Aim
     requires speed { speed ≤ 10 ^ 6 }
     requires places { IsTrue (are_spots places.now) }
@@ -81,7 +81,7 @@ fn go(speed: u64, places: &[Spot], number: Option<usize>, here: Option<Spot>) ->
     }
 }
 
-// To keep a station, where there is one.
+// To keep a station, if there is one.
 fn keeping_station(ring: &Ring, station: Option<Spot>, here: &Spot) -> Option<Want>
     requires radii { ring.now.inner < ring.now.outer }
     requires outer { ring.now.outer ≤ 10 ^ 9 }
@@ -97,7 +97,7 @@ fn keeping_station(ring: &Ring, station: Option<Spot>, here: &Spot) -> Option<Wa
     }
 }
 
-// The same by the position, without which there is a fault.
+// The same by the own position. If it isn't known, there is a fault.
 fn stay(ring: &Ring, station: Option<Spot>, here: Option<Spot>) -> Aim
     requires radii { ring.now.inner < ring.now.outer }
     requires outer { ring.now.outer ≤ 10 ^ 9 }
@@ -113,7 +113,7 @@ fn stay(ring: &Ring, station: Option<Spot>, here: Option<Spot>) -> Aim
     }
 }
 
-// The station that is kept: the centre, where it is taken anew.
+// The station that is kept: the centre, if it is taken anew.
 fn station_of(anew: bool, centre: Option<Spot>, point: Option<Spot>) -> Option<Spot>
     ensures { result ≡ (if anew then centre else point) }
 {

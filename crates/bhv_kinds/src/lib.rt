@@ -1,7 +1,7 @@
 //! The behaviours as kinds: what updates make of a behaviour's parameters, and what its steps give.
 //!
 //! The layer above relies on this: a `Kind` stands for the list of its behaviour's updates and steps by the relation of
-//! specs/Standing, `update` takes an update exactly where all its pairs are good and the relations between parameters hold, and
+//! specs/Standing, `update` takes an update exactly if all its pairs are good and the relations between parameters hold, and
 //! `step` gives what specs/Giving says of that list: a function whose value at each point is what its utility says there
 //! (specs/Worths).
 //!

@@ -110,7 +110,7 @@ fn captures_vertex(
     is_captured(&radii, &spot_at(polygon.all(), vertex), same, before, now)
 }
 
-// The vertex after one that a step makes for: the next, where it is captured.
+// The vertex after one that a step makes for: the next, if it is captured.
 #[tactic(auto, using(crate::proofs::Placed::vertices_are))]
 fn vertex_beyond(shape: &Shape, vertex: usize, captured: bool) -> usize
     requires ranges { InRanges true shape.now }
@@ -135,8 +135,8 @@ fn unless_fresh(fresh: bool, vertex: Option<usize>) -> Option<usize>
     if fresh { None } else { vertex }
 }
 
-/// The vertex that a loiter behaviour makes for after a step: the one before, or the nearest where it is to be chosen anew, or
-/// the next where that is captured.
+/// The vertex that a loiter behaviour makes for after a step: the one before, or the nearest if it is to be chosen anew, or
+/// the next if that is captured.
 #[tactic(auto, using(crate::proofs::Placed::vertices_are))]
 pub fn vertex_after(
     shape: &Shape,
@@ -165,7 +165,7 @@ pub fn vertex_after(
     Some(next)
 }
 
-// The vertex that was chosen, or the nearest where none was.
+// The vertex that was chosen, or the nearest if none was.
 fn made_for(polygon: &[Spot], chosen: Option<usize>, now: &Spot) -> usize
     requires polygon { IsTrue (are_spots polygon.now) }
     requires many { length polygon.now ≤ 64 }

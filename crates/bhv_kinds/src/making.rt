@@ -38,7 +38,7 @@ impl Model for Kept {
 }
 
 impl Kept {
-    /// Nothing.
+    /// No function is kept.
     pub fn nothing() -> Kept {
         Kept { last: None }
     }
@@ -52,7 +52,7 @@ impl Kept {
         Kept { last }
     }
 
-    /// The function of a want over a domain: the kept one, where it was made of the same, or else a new one, which is kept
+    /// The function of a want over a domain: the kept one, if it was made of the same, or else a new one, which is kept
     /// from now on.
     pub fn function(
         &mut self,
@@ -71,7 +71,7 @@ impl Kept {
         Ok(func)
     }
 
-    // The kept function, where it is that of this want over this domain.
+    // The kept function, if it is that of this want over this domain.
     fn find(&self, domain: &Domain, want: &Want) -> Option<Func>
         ensures { IfSome result (λ func. func ≡ function_of domain.now (utility_of want.now)) }
     {
@@ -82,7 +82,7 @@ impl Kept {
     }
 }
 
-// Keeps a function, and none where it is shared too often already.
+// Keeps a function, and none if it is shared too often already.
 fn keep(want: &Want, func: &Func) -> Option<Made>
     requires { func.now ≡ function_of func.now.axes (utility_of want.now) }
     ensures { IfSome result IsMade }

@@ -40,7 +40,7 @@ fn mentions(shape: &Shape) -> Mentioned
     }
 }
 
-/// What a step of a type gives over a domain by what it aims at, with the function that is kept where that is the one.
+/// What a step of a type gives over a domain by what it aims at, with the function that is kept if that is the one.
 pub fn out_of(
     alloc: Global,
     domain: &Domain,

@@ -7,7 +7,7 @@ ghost use Rattle.bhv_kinds.specs.Regions.{depth_fault, late_fault, outside_fault
 use bhv_file::{BhvFault, Spots};
 use helm_geo::{Spot, inside};
 
-/// The fault of a position against a polygon, where there is one.
+/// The fault of a position against a polygon, if there is one.
 pub fn outside_fault(polygon: &Option<Spots>, here: Option<Spot>) -> Option<BhvFault>
     requires polygon { IfSome polygon.now (λ vertices. IsTrue (are_vertices true vertices)) }
     requires here { IfSome here (λ spot. IsTrue (is_spot spot)) }
@@ -26,7 +26,7 @@ pub fn outside_fault(polygon: &Option<Spots>, here: Option<Spot>) -> Option<BhvF
     }
 }
 
-/// The fault of a depth against the greatest one, where both are known.
+/// The fault of a depth against the greatest one, if both are known.
 pub fn depth_fault(limit: Option<i64>, depth: Option<i64>) -> Option<BhvFault>
     ensures { result ≡ depth_fault limit depth }
 {
@@ -40,7 +40,7 @@ pub fn depth_fault(limit: Option<i64>, depth: Option<i64>) -> Option<BhvFault>
     }
 }
 
-/// The fault of the time since the first step against the longest one, where there is one.
+/// The fault of the time since the first step against the longest one, if there is one.
 pub fn late_fault(limit: Option<u64>, time: u64) -> Option<BhvFault>
     ensures { result ≡ late_fault limit time }
 {

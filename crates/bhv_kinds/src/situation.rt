@@ -4,7 +4,7 @@ use helm_geo::Spot;
 /// What a step of a behaviour finds: as much of all that came before as any type needs.
 #[derive(Clone, Copy)]
 pub struct Situation {
-    /// The own position, where it is known.
+    /// The own position, if it is known.
     pub here: Option<Spot>,
     /// The step captures the last target for the last time.
     pub finished: bool,

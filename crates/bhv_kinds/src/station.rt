@@ -1,4 +1,4 @@
-// Keeping a station: where it is, and how fast the ship goes back to it.
+// Keeping a station: where it is, and how fast the vehicle goes back to it.
 ghost use Rattle.std.specs.Prelude.{◌≡◌, ◌≤◌, ◌<◌, ◌*◌, ◌-◌, ◌/◌, ◌^◌, List, codes, option_map, IfSome, IsTrue};
 ghost use Rattle.ivp_domain.specs.declared.axis.Axis.{Axis};
 ghost use Rattle.helm_geo.specs.Plane.{is_spot};
@@ -11,7 +11,7 @@ use crate::want::Want;
 use crate::ways::towards;
 use helm_geo::{Spot, distance_squared, isqrt};
 
-/// The centre after a step: where it stands, unless it is taken anew or wasn't known before.
+/// The centre after a step: where it is, unless it is taken anew or wasn't known before.
 #[tactic(auto, using(crate::proofs::Stepping::centre_within))]
 pub fn centre_after(fresh: bool, centre: Option<Spot>, here: Option<Spot>) -> Option<Spot>
     ensures centre { result ≡ centre_after fresh centre here }
@@ -29,7 +29,7 @@ fn distance_of(p: &Spot, q: &Spot) -> u64
     isqrt(distance_squared(p, q))
 }
 
-/// How a station is kept, in thousandths: within the inner radius the ship stays, from the outer one on it goes at a speed.
+/// How a station is kept, in thousandths: within the inner radius the vehicle stays, from the outer one on it goes at a speed.
 #[derive(Clone, Copy)]
 pub struct Ring {
     pub inner: u64,

@@ -85,7 +85,7 @@ fn both(alloc: Global, domain: &Domain, course: &Peak, speed: &Peak) -> Result<F
     Ok(func)
 }
 
-/// To stay where the ship is: nothing of the course, and no speed.
+/// To stay where the vehicle is: nothing of the course, and no speed.
 pub fn hold(alloc: Global, domain: &Domain) -> Result<Func, NoMemory>
     requires speed { IsTrue (has_axis domain.now (codes "speed")) }
     ensures { IfOk result (λ func. func ≡ function_of domain.now (Sum (Flat 0) (cruise 0))) }

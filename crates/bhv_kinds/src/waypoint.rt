@@ -30,7 +30,7 @@ pub fn spot_at(places: &[Spot], number: usize) -> Spot
     }
 }
 
-// Whether the ship was within the slip radius of a target and is farther away now.
+// Whether the vehicle was within the slip radius of a target and is farther away now.
 fn has_slipped(slip: i64, target: &Spot, before: Option<Spot>, now: &Spot) -> bool
     requires low { pos 0 ≤ℤ slip }
     requires high { slip ≤ℤ pos (10 ^ 9) }
@@ -55,7 +55,7 @@ pub struct Radii {
     pub slip: i64,
 }
 
-/// Whether a target is captured: within the capture radius, or where it was the target before and is slipped past.
+/// Whether a target is captured: within the capture radius, or if it was the target before and is slipped past.
 pub fn is_captured(
     radii: &Radii,
     target: &Spot,

@@ -42,7 +42,7 @@ has_completed past = list_any (λ one. one.outcome.ended) past
 abbrev pub can_run : Common → List BhvPast → Bool
 can_run common past = common.perpetual || not (has_completed past)
 
--- it runs where the helm isn't parked, its conditions hold and it can run again
+-- it runs if the helm isn't parked, its conditions hold and it can run again
 abbrev pub runs_at : Common → List BhvPast → Beginning → Bool
 runs_at common past start = not start.parked && start.held && can_run common past
 
@@ -80,7 +80,7 @@ time_run (one ∷ later) stamp = (if one.ran then first_stamp later stamp - one.
 abbrev pub passed_at : Common → List BhvPast → ℕ → ℕ
 passed_at common past stamp = if common.idle_decay then time_since_run (since_completion past) stamp else time_run (since_completion past) stamp
 
--- the time is below the duration, where there is one
+-- the time is below the duration, if there is one
 abbrev pub is_in_time : Option ℕ → ℕ → Bool
 is_in_time None time = true
 is_in_time (Some duration) time = nat_lt time duration
@@ -89,11 +89,11 @@ is_in_time (Some duration) time = nat_lt time duration
 abbrev pub is_stepped : Common → List BhvPast → Beginning → Bool
 is_stepped common past start = runs_at common past start && is_in_time common.duration (passed_at common past start.stamp)
 
--- it completes where it runs and its duration is over, or its step is done
+-- it completes if it runs and its duration is over, or its step is done
 abbrev pub completes_at : Common → List BhvPast → BhvTurn → Bool
 completes_at common past turn = runs_at common past turn.start && (turn.done || not (is_stepped common past turn.start))
 
--- completed in this turn or for good, else idle where it doesn't run, else active where it gave a function that counts
+-- completed in this turn or for good, else idle if it doesn't run, else active if it gave a function that counts
 abbrev pub state_at : Common → List BhvPast → BhvTurn → BhvState
 state_at common past turn =
     if completes_at common past turn || not (can_run common past) then Completed

@@ -5,7 +5,7 @@ use Rattle.bhv_life.specs.declared.life.Life.{Life}
 use Rattle.bhv_life.specs.declared.started.Started.{Started}
 use Rattle.bhv_life.specs.Lives.{Beginning, BhvPast, BhvTurn, first_run, has_completed, latest_stamp, past_of, phase_at, since_completion, state_after, time_run, was_stepped}
 
--- the span from a stamp, where there is one, up to another
+-- the span from a stamp, if there is one, up to another
 abbrev pub span_from : Option ℕ → ℕ → ℕ
 span_from None stamp = 0
 span_from (Some from) stamp = stamp - from

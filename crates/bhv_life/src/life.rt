@@ -25,11 +25,11 @@ pub struct Life {
     pub(crate) since: Option<u64>,
     /// The time since then from each turn in which it ran to the next turn, up to the last one.
     pub(crate) time: u64,
-    /// The stamp of the last turn, where it ran in it and wasn't completed.
+    /// The stamp of the last turn, if it ran in it and wasn't completed.
     pub(crate) running: Option<u64>,
 }
 
-/// The time from a stamp, where there is one, up to another.
+/// The time from a stamp, if there is one, up to another.
 pub(crate) fn span_from(from: Option<u64>, stamp: u64) -> u64
     ensures { result ≡ span_from from stamp }
 {
@@ -39,7 +39,7 @@ pub(crate) fn span_from(from: Option<u64>, stamp: u64) -> u64
     }
 }
 
-/// Whether the time is below the duration, where there is one.
+/// Whether the time is below the duration, if there is one.
 fn is_in_time(duration: Option<u64>, time: u64) -> bool
     ensures { result ≡ is_in_time duration time }
 {

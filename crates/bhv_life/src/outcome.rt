@@ -20,7 +20,7 @@ pub enum Phase {
 }
 
 /// What a behaviour is after an iteration, and which of its flags that raises: `run`, `idle`, `active` and `inactive` by its
-/// states before and now, and `ended` where it completed in this very iteration.
+/// states before and now, and `ended` if it completed in this very iteration.
 #[derive(Clone, Copy, Debug, PartialEq, Eq)]
 pub struct Outcome {
     pub now: BhvState,

@@ -63,7 +63,7 @@ fn steps_in(phase: Phase) -> bool
     matches!(phase, Phase::Run { .. })
 }
 
-/// Whether it completes, where its step is done or not.
+/// Whether it completes, if its step is done or not.
 fn completes_in(phase: Phase, done: bool) -> bool
     ensures { result ≡ completes_in phase done }
 {
@@ -86,7 +86,7 @@ fn state_in(phase: Phase, gave: bool, done: bool) -> BhvState
     }
 }
 
-/// The stamp of a turn, where the behaviour ran in it.
+/// The stamp of a turn, if the behaviour ran in it.
 fn stamp_if(ran: bool, stamp: u64) -> Option<u64>
     ensures { result ≡ (if ran then Some stamp else None) }
 {
@@ -127,7 +127,7 @@ impl Started {
     }
 
     /// Ends the turn: `gave` says that the behaviour gave a function that counts in this iteration, `done` that its step is
-    /// done. Neither matters where it wasn't stepped. Gives its life with this turn, and what came of it.
+    /// done. Neither matters if it wasn't stepped. Gives its life with this turn, and what came of it.
     pub fn finish(self, gave: bool, done: bool) -> (Life, Outcome)
         ensures life { (common : Common) (turns : List BhvTurn) (start : Beginning) → HasBegun common turns start self → IsLifeOf common (turns ++ record { start = start; gave = gave; done = done } ∷ []) result.0 }
         ensures outcome { (common : Common) (turns : List BhvTurn) (start : Beginning) → HasBegun common turns start self → result.1 ≡ (turn_after common (past_of common turns) (record { start = start; gave = gave; done = done })).outcome }

@@ -20,7 +20,7 @@ use Rattle.helm_cond.specs.Grammar.{condition_of}
 use Rattle.helm_cond.proofs.Naming.{names_named}
 use Rattle.helm_geo.specs.declared.spot.Spot.{Spot}
 use Rattle.helm_geo.specs.Polygons.{are_spots, convex}
-use Rattle.bhv_reader.specs.declared.behavior.Behavior.{Behavior}
+use Rattle.bhv_reader.specs.declared.behavior.UnclosedBehavior.{UnclosedBehavior}
 use Rattle.bhv_file.specs.declared.file.BhvFile.{BhvFile}
 use Rattle.bhv_file.specs.declared.file.Block.{Block}
 use Rattle.bhv_file.specs.declared.file.Unused.{Unused}
@@ -39,7 +39,7 @@ use Rattle.bhv_file.specs.Values.{duration_of, flag_of, templating_of, time_valu
 use Rattle.bhv_file.proofs.Ranged.{own_kept, time_within, weight_within}
 
 -- what an unfinished behaviour keeps behind these
-pub record IsDraft (blocks : List Block) (behavior : Behavior) : Type 0 where
+pub record IsDraft (blocks : List Block) (behavior : UnclosedBehavior) : Type 0 where
   pub few_conds : length behavior.conds ≤ 64
   pub few_flags : flags_in behavior ≤ 32
   pub lasts : IfSome behavior.duration (λ time. time ≤ 10 ^ 9)
@@ -79,7 +79,7 @@ begun_drafted blocks (byte ∷ bytes) = at (defaults_of (byte ∷ bytes)) (defau
     at (Some shape) h = record { few_conds = omega arith; few_flags = omega arith; lasts = tt; weight = omega arith; ranges = h; named = tt; updates = tt; conds = All-nil HasNames; flags = let none = All-nil IsPair in (none, (none, (none, (none, none)))) }
 
 -- a value that is good for a behaviour
-put_good : {A : Type 0} (Q : Behavior → Type 0) (put : A → Behavior) (o : Option A) → IfSome o (λ a. Q (put a)) → IfOk (if_good put o) Q
+put_good : {A : Type 0} (Q : UnclosedBehavior → Type 0) (put : A → UnclosedBehavior) (o : Option A) → IfSome o (λ a. Q (put a)) → IfOk (if_good put o) Q
 put_good Q put None h = tt
 put_good Q put (Some a) h = h
 
@@ -107,7 +107,7 @@ duration_within text = at (bytes_eq text (codes "no-time-limit")) (time_value te
     at false (Some time) h = h
 
 -- a flag for which there is room
-room_left : (behavior : Behavior) (value : List ℕ) → IfOk (one_flag behavior value) (λ pair. (flags_in behavior < 32) × IsPair pair)
+room_left : (behavior : UnclosedBehavior) (value : List ℕ) → IfOk (one_flag behavior value) (λ pair. (flags_in behavior < 32) × IsPair pair)
 room_left behavior value =
     and_then_good IsPair (λ pair. (flags_in behavior < 32) × IsPair pair) (flag_with_room behavior) (flag_value (pair_of value)) (flag_good (pair_of value) (pair_is value))
     (λ pair is. cond_good (λ pair. (flags_in behavior < 32) × IsPair pair) (nat_le 32 (flags_in behavior)) (Err B9) (Ok pair) (λ _. tt) (λ room. (leb-false 32 (flags_in behavior) room, is)))
@@ -116,12 +116,12 @@ room_left behavior value =
     flag_good (Ok pair) is = is
     flag_good (Err fault) is = tt
 
-flag_drafted : (blocks : List Block) (behavior : Behavior) (value : List ℕ) (put : Pair → Behavior) → ((pair : Pair) → flags_in behavior < 32 → IsPair pair → IsDraft blocks (put pair)) → IfOk (and_then (λ pair. Ok (put pair)) (one_flag behavior value)) (IsDraft blocks)
+flag_drafted : (blocks : List Block) (behavior : UnclosedBehavior) (value : List ℕ) (put : Pair → UnclosedBehavior) → ((pair : Pair) → flags_in behavior < 32 → IsPair pair → IsDraft blocks (put pair)) → IfOk (and_then (λ pair. Ok (put pair)) (one_flag behavior value)) (IsDraft blocks)
 flag_drafted blocks behavior value put good =
     and_then_good (λ pair. (flags_in behavior < 32) × IsPair pair) (IsDraft blocks) (λ pair. Ok (put pair)) (one_flag behavior value) (room_left behavior value) (λ pair is. good pair is.0 is.1)
 
 -- a common parameter more
-pub common_drafted : (blocks : List Block) (behavior : Behavior) (value : List ℕ) (parameter : CommonParameter) → IsDraft blocks behavior → IfOk (with_common blocks behavior value parameter) (IsDraft blocks)
+pub common_drafted : (blocks : List Block) (behavior : UnclosedBehavior) (value : List ℕ) (parameter : CommonParameter) → IsDraft blocks behavior → IfOk (with_common blocks behavior value parameter) (IsDraft blocks)
 common_drafted blocks b value Name h =
     and_then_good (λ name. IsTrue (is_name name)) (IsDraft blocks) (with_behavior_name blocks b) (name_value value) (name_good value)
     (λ name is. cond_good (IsDraft blocks) (is_taken blocks name) (Err B4) (Ok (record b { name = Some name })) (λ _. tt)
@@ -168,13 +168,13 @@ common_drafted blocks b value Templating h =
     (anything (λ flag. IsDraft blocks (record b { template = flag })) (templating_of value) (λ flag. record { few_conds = h.few_conds; few_flags = h.few_flags; lasts = h.lasts; weight = h.weight; ranges = h.ranges; named = h.named; updates = h.updates; conds = h.conds; flags = h.flags }))
 
 -- a parameter of its type more
-parameter_drafted : (blocks : List Block) (b : Behavior) (value : List ℕ) (parameter : Parameter) → IsDraft blocks b → IfSome (with_value_of b.spec.shape parameter value) (InRanges false) → IfOk (with_parameter b value parameter) (IsDraft blocks)
+parameter_drafted : (blocks : List Block) (b : UnclosedBehavior) (value : List ℕ) (parameter : Parameter) → IsDraft blocks b → IfSome (with_value_of b.spec.shape parameter value) (InRanges false) → IfOk (with_parameter b value parameter) (IsDraft blocks)
 parameter_drafted blocks b value parameter h in' =
     put_good (IsDraft blocks) (λ shape. record b { spec = record b.spec { shape = shape }; given = b.given || is_needed parameter }) (with_value_of b.spec.shape parameter value)
     (some_weaker (InRanges false) (λ shape. IsDraft blocks (record b { spec = record b.spec { shape = shape }; given = b.given || is_needed parameter })) (with_value_of b.spec.shape parameter value) in'
     (λ shape ranges. record { few_conds = h.few_conds; few_flags = h.few_flags; lasts = h.lasts; weight = h.weight; ranges = ranges; named = h.named; updates = h.updates; conds = h.conds; flags = h.flags }))
 
-known_drafted : (blocks : List Block) (b : Behavior) (value : List ℕ) (common : Option CommonParameter) (own : Option Parameter) → IsDraft blocks b → IfSome own (λ parameter. IfSome (with_value_of b.spec.shape parameter value) (InRanges false)) → IfSome (with_found blocks b value common own) (λ known. IfOk known (IsDraft blocks))
+known_drafted : (blocks : List Block) (b : UnclosedBehavior) (value : List ℕ) (common : Option CommonParameter) (own : Option Parameter) → IsDraft blocks b → IfSome own (λ parameter. IfSome (with_value_of b.spec.shape parameter value) (InRanges false)) → IfSome (with_found blocks b value common own) (λ known. IfOk known (IsDraft blocks))
 known_drafted blocks b value (Some common) own h in' = common_drafted blocks b value common h
 known_drafted blocks b value None (Some own) h in' = parameter_drafted blocks b value own h in'
 known_drafted blocks b value None None h in' = tt
@@ -185,7 +185,7 @@ pub record IsSoundBehavior (domain : List Axis) (block : BehaviorBlock) : Type 0
   pub served : serves domain block.file.blocks ≡ true
   pub draft : IsDraft block.file.blocks block.behavior
 
-after_sound : (domain : List Axis) (block : BehaviorBlock) (line : ℕ) (name : List ℕ) (known : Option (Result Behavior Cause)) → IsTrue (is_name name) → IsSoundBehavior domain block → IfSome known (λ r. IfOk r (IsDraft block.file.blocks)) → IfOk (after_known block line name known) (IsSoundBehavior domain)
+after_sound : (domain : List Axis) (block : BehaviorBlock) (line : ℕ) (name : List ℕ) (known : Option (Result UnclosedBehavior Cause)) → IsTrue (is_name name) → IsSoundBehavior domain block → IfSome known (λ r. IfOk r (IsDraft block.file.blocks)) → IfOk (after_known block line name known) (IsSoundBehavior domain)
 after_sound domain block line name None is sound h = record {
   file = record {
     opening = sound.file.opening;
@@ -208,7 +208,7 @@ line_sound domain block line (Some sides) sound =
     cond_good (IsSoundBehavior domain) (is_name sides.name) (after_known block line sides.name known) (Err B1) (λ is. after_sound domain block line sides.name known is sound
     (known_drafted block.file.blocks block.behavior sides.value (common_named sides.name) (parameter_of block.behavior.spec.shape sides.name) sound.draft (own_kept false block.behavior.spec.shape sides.name sides.value sound.draft.ranges))) (λ _. tt)
   where
-    known : Option (Result Behavior Cause)
+    known : Option (Result UnclosedBehavior Cause)
     known = with_found block.file.blocks block.behavior sides.value (common_named sides.name) (parameter_of block.behavior.spec.shape sides.name)
 
 -- places that needn't be given, but are
@@ -294,7 +294,7 @@ added_sound domain block (Some name) sound named given relations axes suited =
     free : IsTrue (is_name name) × (is_taken block.file.blocks name ≡ false)
     free = subst (λ o. IfSome o (λ n. IsTrue (is_name n) × (is_taken block.file.blocks n ≡ false))) named sound.draft.named
 
-    b : Behavior
+    b : UnclosedBehavior
     b = block.behavior
 
     is : IsBlock block.file.blocks new

@@ -16,7 +16,7 @@ use Rattle.moos_text.specs.declared.cause.LineFault.{LineFault}
 use Rattle.moos_text.specs.declared.cause.LineFault.TheVariants.{Refused, NoMemory}
 use Rattle.moos_text.specs.Pairs.{Sides}
 use Rattle.moos_text.specs.Refusals.{and_then, IsLineFault}
-use Rattle.bhv_reader.specs.declared.behavior.Behavior.{Behavior}
+use Rattle.bhv_reader.specs.declared.behavior.UnclosedBehavior.{UnclosedBehavior}
 use Rattle.bhv_file.specs.declared.file.BhvFile.{BhvFile}
 use Rattle.bhv_file.specs.declared.table.CommonParameter.{CommonParameter}
 use Rattle.bhv_file.specs.declared.table.CommonParameter.TheVariants.{Name, Weight, Condition, RunFlag, IdleFlag, ActiveFlag, InactiveFlag, EndFlag, Updates, Duration, IdleDecay, Perpetual, Templating}
@@ -172,11 +172,11 @@ common_line block line sides parameter found =
     ∙ ap (λ one. after_known block line sides.name (with_found block.file.blocks block.behavior sides.value one own)) (sym found)
 
 -- what a line makes of a behaviour, and why it is refused, where only the behaviour is another
-pub line_read : {A : Type 0} (whole : Result BehaviorBlock Cause) (part : Result Behavior Cause) (file : BhvFile) (after : Behavior) (result : Result A LineFault) → whole ≡ and_then (λ behavior. Ok (behavior_block file behavior)) part → IfOk result (λ _. part ≡ Ok after) → IfOk result (λ _. whole ≡ Ok (behavior_block file after))
+pub line_read : {A : Type 0} (whole : Result BehaviorBlock Cause) (part : Result UnclosedBehavior Cause) (file : BhvFile) (after : UnclosedBehavior) (result : Result A LineFault) → whole ≡ and_then (λ behavior. Ok (behavior_block file behavior)) part → IfOk result (λ _. part ≡ Ok after) → IfOk result (λ _. whole ≡ Ok (behavior_block file after))
 line_read whole part file after (Ok x) is read = is ∙ ap (and_then (λ behavior. Ok (behavior_block file behavior))) read
 line_read whole part file after (Err fault) is read = tt
 
-pub line_refused : {A : Type 0} (whole : Result BehaviorBlock Cause) (part : Result Behavior Cause) (file : BhvFile) (result : Result A LineFault) → whole ≡ and_then (λ behavior. Ok (behavior_block file behavior)) part → IfErr result (λ fault. IsLineFault fault part) → IfErr result (λ fault. IsLineFault fault whole)
+pub line_refused : {A : Type 0} (whole : Result BehaviorBlock Cause) (part : Result UnclosedBehavior Cause) (file : BhvFile) (result : Result A LineFault) → whole ≡ and_then (λ behavior. Ok (behavior_block file behavior)) part → IfErr result (λ fault. IsLineFault fault part) → IfErr result (λ fault. IsLineFault fault whole)
 line_refused whole part file (Ok x) is refused = tt
 line_refused whole part file (Err (Refused cause)) is refused = is ∙ ap (and_then (λ behavior. Ok (behavior_block file behavior))) refused
 line_refused whole part file (Err NoMemory) is refused = tt

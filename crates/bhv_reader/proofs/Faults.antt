@@ -7,7 +7,7 @@ use Rattle.moos_post.specs.declared.value.Value.{Value}
 use Rattle.moos_text.specs.Lines.{behind_word, ends_with, is_unclosed}
 use Rattle.moos_text.specs.Standing.{after_statement, after_text, behind_head, Inside, Opened, Outside, Standing}
 use Rattle.helm_cond.specs.Conditions.{Condition, parent_of}
-use Rattle.bhv_reader.specs.declared.behavior.Behavior.{Behavior}
+use Rattle.bhv_reader.specs.declared.behavior.UnclosedBehavior.{UnclosedBehavior}
 use Rattle.bhv_reader.specs.declared.reading.Position.TheVariants.{Headed, Braced}
 use Rattle.bhv_reader.specs.declared.reading.Unclosed.{Unclosed}
 use Rattle.ivp_domain.specs.declared.axis.Axis.{Axis}
@@ -83,7 +83,7 @@ abbrev pub place_behind : List ℕ → OpenBlock → Result (Standing BhvFile Op
 place_behind text block = Ok (behind_head text block)
 
 -- a line of neither keyword begins a behaviour
-abbrev pub behavior_place : BhvFile → List ℕ → Result Behavior Cause → Result (Standing BhvFile OpenBlock) Cause
+abbrev pub behavior_place : BhvFile → List ℕ → Result UnclosedBehavior Cause → Result (Standing BhvFile OpenBlock) Cause
 behavior_place file text begun = and_then (λ behavior. place_behind text (OfBehavior (behavior_block file behavior))) begun
 
 pub behavior_said : (domain : List Axis) (file : BhvFile) (text : List ℕ) (line : ℕ) → begins_by (codes "set") text ≡ false → begins_by (codes "initialize") text ≡ false → after_statement (behavior_form domain) (Outside file) (record { line = line; text = text }) ≡ behavior_place file text (cond (begins_behavior (sides_of text)) (behavior_in (sides_of text)) (Err B1))
@@ -92,7 +92,7 @@ behavior_said domain file text line set initialize = rw (set, initialize) (at (s
     neither : Result (Standing BhvFile OpenBlock) Cause
     neither = and_then {A = BhvFile} (λ more. Ok (Outside more)) (Err B1)
 
-    placed : (r : Result Behavior Cause) → and_then (place_behind text) (and_then (λ block. Ok (OfBehavior block)) (and_then (λ behavior. Ok (behavior_block file behavior)) r)) ≡ behavior_place file text r
+    placed : (r : Result UnclosedBehavior Cause) → and_then (place_behind text) (and_then (λ block. Ok (OfBehavior block)) (and_then (λ behavior. Ok (behavior_block file behavior)) r)) ≡ behavior_place file text r
     placed (Ok behavior) = refl
     placed (Err cause) = refl
 

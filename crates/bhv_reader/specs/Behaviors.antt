@@ -21,7 +21,7 @@ use Rattle.bhv_reader.specs.Blocks.{behavior_closed, behavior_of_type, BehaviorB
 use Rattle.bhv_file.specs.Validity.{fits_mode}
 use Rattle.bhv_file.specs.Paths.{meant_by, parent_path, paths_of, the_one}
 
--- what stands before the first line
+-- what is before the first line
 abbrev pub nothing_said : BhvFile
 nothing_said = record { opening = []; decls = []; blocks = []; unused = [] }
 
@@ -100,7 +100,7 @@ with_condition block (Some cond) =
     else if nat_le 64 (length block.conds) then Err B9
     else after_condition (record block { conds = block.conds ++ cond ∷ [] }) (parent_of cond)
 
--- the OTHER name of a mode, where one is given
+-- the OTHER name of a mode, if one is given
 abbrev pub other_of : List ℕ → Result (Option (List ℕ)) Cause
 other_of [] = Ok None
 other_of (byte ∷ bytes) = if is_name (byte ∷ bytes) then Ok (Some (byte ∷ bytes)) else Err B1
@@ -116,7 +116,7 @@ abbrev pub begins_by_brace : List ℕ → Bool
 begins_by_brace [] = false
 begins_by_brace (byte ∷ bytes) = byte == 125
 
--- what stands behind the `}` of a line
+-- what follows the `}` of a line
 abbrev pub behind_close : List ℕ → List ℕ
 behind_close [] = []
 behind_close (byte ∷ bytes) = trimmed bytes

@@ -10,7 +10,7 @@ use Rattle.moos_text.specs.Pairs.{pair_of, Sides}
 use Rattle.moos_text.specs.Refusals.{and_then}
 use Rattle.helm_cond.specs.Conditions.{Condition}
 use Rattle.helm_cond.specs.Grammar.{condition_of}
-use Rattle.bhv_reader.specs.declared.behavior.Behavior.{Behavior}
+use Rattle.bhv_reader.specs.declared.behavior.UnclosedBehavior.{UnclosedBehavior}
 use Rattle.bhv_file.specs.declared.file.BhvFile.{BhvFile}
 use Rattle.bhv_file.specs.declared.file.Block.{Block}
 use Rattle.bhv_file.specs.declared.spec.Shape.{Shape}
@@ -26,10 +26,10 @@ use Rattle.bhv_file.specs.Values.{duration_of, flag_of, templating_of, weight_of
 -- a behaviour whose block isn't closed yet, and the file before it
 pub record BehaviorBlock : Type 0 where
   pub file : BhvFile
-  pub behavior : Behavior
+  pub behavior : UnclosedBehavior
 
 -- a behaviour of a type before its first parameter
-abbrev pub of_shape : Shape → Behavior
+abbrev pub of_shape : Shape → UnclosedBehavior
 of_shape shape = record {
   name = None;
   conds = [];
@@ -48,7 +48,7 @@ of_shape shape = record {
 }
 
 -- a behaviour of the type of this name
-abbrev pub behavior_of_type : List ℕ → Result Behavior Cause
+abbrev pub behavior_of_type : List ℕ → Result UnclosedBehavior Cause
 behavior_of_type [] = Err B1
 behavior_of_type (byte ∷ bytes) = ok_or (option_map of_shape (defaults_of (byte ∷ bytes))) B3
 
@@ -57,15 +57,15 @@ abbrev pub name_value : List ℕ → Result (List ℕ) Cause
 name_value value = if is_name value then Ok value else Err B6
 
 -- a behaviour with a name, which no behaviour before it has
-abbrev pub with_behavior_name : List Block → Behavior → List ℕ → Result Behavior Cause
+abbrev pub with_behavior_name : List Block → UnclosedBehavior → List ℕ → Result UnclosedBehavior Cause
 with_behavior_name blocks behavior name = if is_taken blocks name then Err B4 else Ok (record behavior { name = Some name })
 
 -- a behaviour with one condition more, of at most 64
-abbrev pub with_behavior_condition : Behavior → Condition → Result Behavior Cause
+abbrev pub with_behavior_condition : UnclosedBehavior → Condition → Result UnclosedBehavior Cause
 with_behavior_condition behavior cond = if nat_le 64 (length behavior.conds) then Err B9 else Ok (record behavior { conds = behavior.conds ++ cond ∷ [] })
 
 -- how many flags of all kinds a behaviour has
-abbrev pub flags_in : Behavior → ℕ
+abbrev pub flags_in : UnclosedBehavior → ℕ
 flags_in behavior = length behavior.runflags + length behavior.idleflags + length behavior.activeflags + length behavior.inactiveflags + length behavior.endflags
 
 -- a flag as a value
@@ -74,19 +74,19 @@ flag_value (Ok pair) = Ok pair
 flag_value (Err fault) = Err B6
 
 -- room for one flag more, of at most 32 of all kinds
-abbrev pub flag_with_room : Behavior → Pair → Result Pair Cause
+abbrev pub flag_with_room : UnclosedBehavior → Pair → Result Pair Cause
 flag_with_room behavior pair = if nat_le 32 (flags_in behavior) then Err B9 else Ok pair
 
 -- one flag more
-abbrev pub one_flag : Behavior → List ℕ → Result Pair Cause
+abbrev pub one_flag : UnclosedBehavior → List ℕ → Result Pair Cause
 one_flag behavior value = and_then (flag_with_room behavior) (flag_value (pair_of value))
 
--- a behaviour with what a value says, where it is a good one
-abbrev pub if_good : {A : Type 0} → (A → Behavior) → Option A → Result Behavior Cause
+-- a behaviour with what a value says, if it is a good one
+abbrev pub if_good : {A : Type 0} → (A → UnclosedBehavior) → Option A → Result UnclosedBehavior Cause
 if_good put value = ok_or (option_map put value) B6
 
 -- a behaviour with a common parameter, behind these behaviours
-abbrev pub with_common : List Block → Behavior → List ℕ → CommonParameter → Result Behavior Cause
+abbrev pub with_common : List Block → UnclosedBehavior → List ℕ → CommonParameter → Result UnclosedBehavior Cause
 with_common blocks behavior value Name = and_then (with_behavior_name blocks behavior) (name_value value)
 with_common blocks behavior value Weight = if_good (λ weight. record behavior { spec = record behavior.spec { weight = weight } }) (weight_of value)
 with_common blocks behavior value OfCondition = and_then (with_behavior_condition behavior) (ok_or (condition_of value) B5)
@@ -102,19 +102,19 @@ with_common blocks behavior value Perpetual = if_good (λ flag. record behavior 
 with_common blocks behavior value Templating = if_good (λ flag. record behavior { template = flag }) (templating_of value)
 
 -- a behaviour with a parameter of its type
-abbrev pub with_parameter : Behavior → List ℕ → Parameter → Result Behavior Cause
+abbrev pub with_parameter : UnclosedBehavior → List ℕ → Parameter → Result UnclosedBehavior Cause
 with_parameter behavior value parameter =
     if_good (λ shape. record behavior { spec = record behavior.spec { shape = shape }; given = behavior.given || is_needed parameter })
     (with_value_of behavior.spec.shape parameter value)
 
--- a behaviour with a parameter, and none where this one is no parameter of its type
-abbrev pub with_found : List Block → Behavior → List ℕ → Option CommonParameter → Option Parameter → Option (Result Behavior Cause)
+-- a behaviour with a parameter, and none if this one is no parameter of its type
+abbrev pub with_found : List Block → UnclosedBehavior → List ℕ → Option CommonParameter → Option Parameter → Option (Result UnclosedBehavior Cause)
 with_found blocks behavior value (Some common) own = Some (with_common blocks behavior value common)
 with_found blocks behavior value None (Some own) = Some (with_parameter behavior value own)
 with_found blocks behavior value None None = None
 
 -- a behaviour with one line more in its block: a parameter, or one that is unused
-abbrev pub after_known : BehaviorBlock → ℕ → List ℕ → Option (Result Behavior Cause) → Result BehaviorBlock Cause
+abbrev pub after_known : BehaviorBlock → ℕ → List ℕ → Option (Result UnclosedBehavior Cause) → Result BehaviorBlock Cause
 after_known block line name (Some known) = and_then (λ behavior. Ok (record block { behavior = behavior })) known
 after_known block line name None = Ok (record block { file = record block.file { unused = block.file.unused ++ record { line = line; name = name } ∷ [] } })
 
@@ -127,15 +127,15 @@ with_sides block line (Some sides) =
     else Err B1
 
 -- it is a template, and there is no variable whose letters it hears
-abbrev pub is_unheard : Behavior → Bool
+abbrev pub is_unheard : UnclosedBehavior → Bool
 is_unheard behavior = behavior.template && is_none behavior.updates
 
 -- a required parameter is missing
-abbrev pub is_unfinished : Behavior → Bool
+abbrev pub is_unfinished : UnclosedBehavior → Bool
 is_unfinished behavior = is_none behavior.name || not behavior.given || is_unheard behavior || lacks_places behavior.spec.shape
 
--- why a behaviour is refused at the end of its block, where it is
-abbrev pub closing_fault : List Axis → Behavior → Option Cause
+-- why a behaviour is refused at the end of its block, if it is
+abbrev pub closing_fault : List Axis → UnclosedBehavior → Option Cause
 closing_fault domain behavior =
     if is_unfinished behavior then Some B11
     else if not (keeps_relations behavior.spec.shape && suits domain behavior.spec.shape) then Some B6
@@ -143,7 +143,7 @@ closing_fault domain behavior =
     else None
 
 -- a whole behaviour of this name
-abbrev pub block_of : Behavior → List ℕ → Block
+abbrev pub block_of : UnclosedBehavior → List ℕ → Block
 block_of behavior name = record {
   common = record {
     name = name;
@@ -169,12 +169,12 @@ with_block block (Some name) =
     if nat_le 64 (length block.file.blocks) then Err B9
     else Ok (record block.file { blocks = block.file.blocks ++ block_of block.behavior name ∷ [] })
 
--- a behaviour at the end of its block, where it is good
+-- a behaviour at the end of its block, if it is good
 abbrev pub when_good : BehaviorBlock → Option Cause → Result BhvFile Cause
 when_good block (Some cause) = Err cause
 when_good block None = with_block block block.behavior.name
 
--- a behaviour at the end of its block, behind whose `}` this stands
+-- a behaviour at the end of its block, behind whose `}` this is
 abbrev pub behavior_closed : List Axis → BehaviorBlock → List ℕ → Result BhvFile Cause
 behavior_closed domain block [] = when_good block (closing_fault domain block.behavior)
 behavior_closed domain block (byte ∷ bytes) = Err B1

@@ -11,17 +11,16 @@ ghost use Rattle.bhv_reader.specs.Places.{behavior_block};
 ghost use Rattle.bhv_file.specs.declared.file.BhvFile.{BhvFile};
 
 use crate::element::{add_cond, add_flag, flag_in, good, name_in};
-use crate::judging::{has_axes, keeps_relations, lacks_places};
+use crate::judging::has_axes;
 use crate::mode::condition_in;
-use crate::name::is_name;
 use crate::types::{defaults, needs_number};
 use bhv_file::{
     BhvFile, Block, Common, CommonParameter, Conds, Parameter, Spec, Unused, common_named,
-    is_needed, parameter_named, read_duration, read_flag, read_templating, read_weight, set_value,
-    suits,
+    is_needed, keeps_relations, lacks_places, parameter_named, read_duration, read_flag,
+    read_templating, read_weight, set_value, suits,
 };
 use ivp_domain::Domain;
-use moos_post::{Batch, Name, Pair, Txt};
+use moos_post::{Batch, Name, Pair, Txt, is_name};
 use moos_text::{Cause, LineFault, cut_at_equals};
 use std::alloc::Global;
 
@@ -32,7 +31,7 @@ const MOST_FLAGS: u128 = 32;
 
 /// A behaviour whose block isn't closed yet.
 #[derive(Drop)]
-pub struct Behavior {
+pub struct UnclosedBehavior {
     pub name: Option<Name>,
     pub conds: Conds,
     pub runflags: Batch,
@@ -50,9 +49,9 @@ pub struct Behavior {
     pub spec: Spec,
 }
 
-impl Behavior {
+impl UnclosedBehavior {
     /// A behaviour of the type of this name before its first parameter.
-    pub fn begin(alloc: Global, type_: &[u8]) -> Result<Behavior, Cause>
+    pub fn begin(alloc: Global, type_: &[u8]) -> Result<UnclosedBehavior, Cause>
         ensures { result ≡ behavior_of_type type_.now }
     {
         if type_.len() == 0 {
@@ -61,7 +60,7 @@ impl Behavior {
         let Some(shape) = defaults(alloc, type_) else {
             return Err(Cause::B3);
         };
-        Ok(Behavior {
+        Ok(UnclosedBehavior {
             name: None,
             conds: Conds::new(alloc),
             runflags: Batch::new(alloc),
@@ -99,7 +98,7 @@ impl Behavior {
         let Some((name, value)) = cut_at_equals(text) else {
             return Err(LineFault::Refused(Cause::B1));
         };
-        // What a table knows is a name and stands in no other table: so the type's own is looked at first, and only what no
+        // What a table knows is a name and is in no other table: so the type's own is looked at first, and only what no
         // table knows is judged.
         if let Some(parameter) = parameter_named(&self.spec.shape, name) {
             return self.set_own(alloc, parameter, value);
@@ -113,7 +112,7 @@ impl Behavior {
         add_unused(alloc, file, line, name)
     }
 
-    /// Closes the block, behind whose `}` this stands, in a file over this domain.
+    /// Closes the block, behind whose `}` this is, in a file over this domain.
     pub fn close(self, domain: &Domain, file: &mut BhvFile, behind: &[u8]) -> Result<(), LineFault>
         requires { InRanges false self.spec.shape }
         ensures read { IfOk result (λ _. behavior_closed domain.now (behavior_block file.old self) behind.now ≡ Ok file.new) }
@@ -124,7 +123,7 @@ impl Behavior {
         self.add_to(file)
     }
 
-    // Refuses it at the end of its block, behind whose `}` this stands, where it isn't good.
+    // Refuses it at the end of its block, behind whose `}` this is, if it isn't good.
     fn judge(&self, domain: &Domain, behind: &[u8]) -> Result<(), LineFault>
         requires { InRanges false self.now.spec.shape }
         ensures good { OnOk result ((behind.now ≡ []) × (closing_fault domain.now self.now ≡ None)) }
@@ -139,7 +138,7 @@ impl Behavior {
         }
     }
 
-    // Why it is refused at the end of its block, where it is.
+    // Why it is refused at the end of its block, if it is.
     fn closing_fault(&self, domain: &Domain) -> Option<Cause>
         requires { InRanges false self.now.spec.shape }
         ensures { result ≡ closing_fault domain.now self.now }
@@ -180,7 +179,7 @@ impl Behavior {
         Ok(())
     }
 
-    // The whole of it, where it has a name.
+    // The whole of it, if it has a name.
     fn block(self) -> Option<Block>
         ensures { result ≡ option_map (block_of self) self.name }
     {

@@ -13,7 +13,7 @@ use std::alloc::Global;
 // The most conditions of a behaviour.
 const MOST_CONDITIONS: usize = 64;
 
-/// What a value says, where it is a good one.
+/// What a value says, if it is a good one.
 pub fn good<T: Drop>(value: Option<T>) -> Result<T, LineFault>
     ensures { result ≡ ok_or value (LineFault.Refused Cause.B6) }
 {
@@ -44,7 +44,7 @@ pub fn flag_in(alloc: Global, value: &[u8]) -> Result<Pair, LineFault>
     }
 }
 
-/// One condition more, where there is room.
+/// One condition more, if there is room.
 pub fn add_cond(conds: &mut Conds, cond: Cond) -> Result<(), LineFault>
     ensures ok { OnOk result ((if nat_le 64 (length conds.old) then Err Cause.B9 else Ok (conds.old ++ cond ∷ [])) ≡ Ok conds.new) }
     ensures refused { IfErr result (λ fault. IsLineFault fault (if nat_le 64 (length conds.old) then Err Cause.B9 else Ok (conds.old ++ cond ∷ []))) }

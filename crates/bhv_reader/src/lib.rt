@@ -12,7 +12,6 @@ mod behavior;
 mod element;
 mod judging;
 mod mode;
-mod name;
 mod parent;
 mod read;
 mod reading;

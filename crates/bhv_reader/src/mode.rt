@@ -25,14 +25,14 @@ const MOST_MODES: usize = 256;
 
 /// A mode declaration whose block isn't closed yet.
 #[derive(Drop)]
-pub struct Mode {
+pub struct UnclosedMode {
     pub name: Name,
     pub parent: Option<u32>,
     pub conds: Conds,
 }
 
 /// Begins the mode that a text `MODE = NAME` declares.
-pub fn begin_mode(alloc: Global, file: &BhvFile, text: &[u8]) -> Result<Mode, LineFault>
+pub fn begin_mode(alloc: Global, file: &BhvFile, text: &[u8]) -> Result<UnclosedMode, LineFault>
     ensures begun { IfOk result (λ mode. mode_begun file.now (sides_of text.now) ≡ Ok (mode_block file.now mode)) }
     ensures refused { IfErr result (λ fault. IsLineFault fault (mode_begun file.now (sides_of text.now))) }
 {
@@ -43,14 +43,14 @@ pub fn begin_mode(alloc: Global, file: &BhvFile, text: &[u8]) -> Result<Mode, Li
         return Err(LineFault::Refused(Cause::B1));
     }
     let name = name_of(alloc, trimmed(without_last(value, b'{')))?;
-    Ok(Mode {
+    Ok(UnclosedMode {
         name,
         parent: None,
         conds: Conds::new(alloc),
     })
 }
 
-impl Mode {
+impl UnclosedMode {
     /// One condition more.
     pub fn add_condition(
         &mut self,
@@ -79,7 +79,7 @@ impl Mode {
         Ok(())
     }
 
-    /// The declaration, by what stands behind the `}` that closes its block.
+    /// The declaration, by what follows the `}` that closes its block.
     pub fn close(self, alloc: Global, file: &mut BhvFile, text: &[u8]) -> Result<(), LineFault>
         ensures read { IfOk result (λ _. and_then (with_decl (mode_block file.old self)) (other_of text.now) ≡ Ok file.new) }
         ensures refused { IfErr result (λ fault. IsLineFault fault (and_then (with_decl (mode_block file.old self)) (other_of text.now))) }
@@ -88,7 +88,7 @@ impl Mode {
         if file.decls.len() >= MOST_MODES {
             return Err(LineFault::Refused(Cause::B9));
         }
-        let Mode {
+        let UnclosedMode {
             name,
             parent,
             conds,
@@ -104,7 +104,7 @@ impl Mode {
     }
 }
 
-// The parent with what a condition says of it, where that is a parent line.
+// The parent with what a condition says of it, if that is a parent line.
 fn parent_behind(file: &BhvFile, parent: Option<u32>, cond: &Cond) -> Result<Option<u32>, Cause>
     requires { length file.now.decls ≤ 256 }
     ensures { result ≡ parent_behind file.now.decls parent (parent_of cond.now) }

@@ -90,7 +90,7 @@ fn above(decl: &Decl, number: usize) -> Option<usize>
     }
 }
 
-// The last part of a name, and what stands before its `:`, where it has several.
+// The last part of a name, and what is before its `:`, if it has several.
 fn cut_last(text: &[u8]) -> (Option<&[u8]>, &[u8])
     ensures cut { MatchOption result.0 (mode_names text.now ≡ result.1.now ∷ []) (λ front. mode_names text.now ≡ mode_names front.now ++ result.1.now ∷ []) }
     ensures shorter { IfSome result.0 (λ front. length front.now < length text.now) }
@@ -101,7 +101,7 @@ fn cut_last(text: &[u8]) -> (Option<&[u8]>, &[u8])
     }
 }
 
-// Where the last `:` stands.
+// Where the last `:` is.
 fn last_colon(text: &[u8]) -> Option<usize>
     ensures none { IfNone result (list_any is_colon text.now ≡ false) }
     ensures place { IfSome result (λ place. (place < length text.now) × (slice_index text.now place ≡ 58) × (list_any is_colon (drop (place + 1) text.now) ≡ false)) }

@@ -1,7 +1,7 @@
-// A behaviour file line by line. Most lines stand in a block and set a number of its type: what such a line goes through is
+// A behaviour file line by line. Most lines are in a block and set a number of its type: what such a line goes through is
 // inlined into the loop over the lines, and what fewer of them need isn't.
 ghost use Rattle.std.specs.Prelude.{◌≡◌, ◌<◌, ◌≤◌, ◌^◌, Ok, Err, IfOk, OnOk, IfErr, List, length, true, false, if◌then◌else◌, codes, bytes_eq};
-ghost use Rattle.moos_text.specs.Lines.{behind_word, ends_with, first_word, is_unclosed};
+ghost use Rattle.moos_text.specs.Lines.{ends_with, is_unclosed};
 ghost use Rattle.moos_text.specs.Pairs.{pair_of, sides_of};
 ghost use Rattle.moos_text.specs.Refusals.{IsFirst, IsLineFault};
 ghost use Rattle.moos_text.specs.Standing.{after_statement, after_text, at_end, Outside};
@@ -11,14 +11,14 @@ ghost use Rattle.moos_text.specs.Sections.{Statement};
 ghost use Rattle.bhv_file.specs.declared.file.BhvFile.{BhvFile};
 ghost use Rattle.ivp_domain.specs.declared.axis.Axis.{Axis};
 
-use crate::behavior::Behavior;
-use crate::mode::{Mode, begin_mode};
+use crate::behavior::UnclosedBehavior;
+use crate::mode::{UnclosedMode, begin_mode};
 use bhv_file::BhvFile;
 use ivp_domain::Domain;
 use moos_post::Pair;
 use moos_text::{
-    Cause, LineFault, PairFault, ReadFault, cut_at_equals, ends_with, is_named, next_word,
-    read_pair, trimmed, without_last,
+    Cause, LineFault, PairFault, ReadFault, cut_at_equals, ends_with, is_named, read_pair,
+    split_word, trimmed, without_last,
 };
 use std::alloc::Global;
 use std::mem;
@@ -30,8 +30,8 @@ const MOST_PAIRS: usize = 256;
 /// to line.
 #[derive(Drop)]
 pub enum Unclosed {
-    OfMode(Mode),
-    OfBehavior(Box<Behavior>),
+    OfMode(UnclosedMode),
+    OfBehavior(Box<UnclosedBehavior>),
 }
 
 /// Where the lines have come: outside blocks, behind a line that opens one, or between its braces.
@@ -42,7 +42,7 @@ pub enum Position {
     Braced(Unclosed),
 }
 
-/// Reads one line more, which has this number and says this; nothing where it is blank. Behind a refusal it isn't said where
+/// Reads one line more, which has this number and says this; nothing if it is blank. Behind a refusal it isn't said if
 /// the lines are.
 #[inline(always)]
 pub fn after_line(
@@ -122,7 +122,7 @@ fn pass_edge(
     Ok(())
 }
 
-// Whether a line stands in a block and doesn't close it.
+// Whether a line is in a block and doesn't close it.
 fn is_within(place: &Position, text: &[u8]) -> bool
     ensures { result ≡ is_within place.now text.now }
 {
@@ -138,7 +138,7 @@ fn begins_by_brace(text: &[u8]) -> bool
     matches!(text, [b'}', ..])
 }
 
-// A line that stands in a block and doesn't close it changes the block in its place.
+// A line that is in a block and doesn't close it changes the block in its place.
 #[inline(always)]
 fn read_within(
     alloc: Global,
@@ -159,7 +159,7 @@ fn read_within(
         Position::Braced(Unclosed::OfBehavior(behavior)) => {
             behavior.read_line(alloc, file, line, text)
         },
-        // Elsewhere no line stands in a block.
+        // Elsewhere no line is in a block.
         Position::Loose | Position::Headed(_) => Ok(()),
     }
 }
@@ -190,7 +190,7 @@ fn read_at_edge(
     }
 }
 
-// The end of a block, behind whose `}` this stands.
+// The end of a block, behind whose `}` this is.
 fn close(
     alloc: Global,
     domain: &Domain,
@@ -242,7 +242,7 @@ fn after_loose(
 }
 
 // The behaviour that a line `Behavior = TYPE` begins. Other lines are refused.
-fn begin_behavior(alloc: Global, text: &[u8]) -> Result<Behavior, Cause>
+fn begin_behavior(alloc: Global, text: &[u8]) -> Result<UnclosedBehavior, Cause>
     ensures { result ≡ (if begins_behavior (sides_of text.now) then behavior_in (sides_of text.now) else Err Cause.B1) }
 {
     let Some((name, value)) = cut_at_equals(text) else {
@@ -251,12 +251,12 @@ fn begin_behavior(alloc: Global, text: &[u8]) -> Result<Behavior, Cause>
     if !is_named(name, b"Behavior") {
         return Err(Cause::B1);
     }
-    let behavior = Behavior::begin(alloc, trimmed(without_last(value, b'{')))?;
+    let behavior = UnclosedBehavior::begin(alloc, trimmed(without_last(value, b'{')))?;
     Ok(behavior)
 }
 
 // A behaviour as a block that isn't closed yet.
-fn boxed(alloc: Global, behavior: Behavior) -> Result<Unclosed, LineFault>
+fn boxed(alloc: Global, behavior: UnclosedBehavior) -> Result<Unclosed, LineFault>
     ensures block { (file : BhvFile) → IfOk result (λ block. open_block file block ≡ BehaviorOpen (behavior_block file behavior)) }
     ensures refused { IfErr result (λ fault. fault ≡ LineFault.NoMemory) }
 {
@@ -277,7 +277,7 @@ fn behind_head(text: &[u8], block: Unclosed) -> Position
     }
 }
 
-// Behind a line that opens a block stands its `{`.
+// Behind a line that opens a block is its `{`.
 fn braced(block: Unclosed, text: &[u8]) -> Result<Position, Cause>
     ensures { result ≡ (if bytes_eq text.now (codes "{") then Ok (Position.Braced block) else Err Cause.B1) }
 {
@@ -288,24 +288,13 @@ fn braced(block: Unclosed, text: &[u8]) -> Result<Position, Cause>
     }
 }
 
-// What stands behind the `}` that a line begins with.
+// What follows the `}` that a line begins with.
 fn behind_close(text: &[u8]) -> &[u8]
     ensures { result.now ≡ behind_close text.now }
 {
     match text {
         [] => text,
         [_, rest @ ..] => trimmed(rest),
-    }
-}
-
-// The first word, empty where there is none, and what stands behind it.
-fn split_word(text: &[u8]) -> (&[u8], &[u8])
-    ensures first { result.0.now ≡ first_word text.now }
-    ensures behind { result.1.now ≡ behind_word text.now }
-{
-    match next_word(text) {
-        Some(split) => split,
-        None => (b"".as_slice(), b"".as_slice()),
     }
 }
 
@@ -333,7 +322,7 @@ fn add_pair(file: &mut BhvFile, pair: Pair) -> Result<(), LineFault>
     Ok(())
 }
 
-/// The file, where the lines end outside blocks; else its last line is refused.
+/// The file, if the lines end outside blocks; else its last line is refused.
 pub fn whole_file(
     domain: &Domain,
     file: BhvFile,

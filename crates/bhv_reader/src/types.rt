@@ -1,11 +1,11 @@
-// The types of behaviours, and what their parameters are where they aren't given.
+// The types of behaviours, and what their parameters are if they aren't given.
 ghost use Rattle.std.specs.Prelude.{◌≡◌, drop, take};
 ghost use Rattle.bhv_file.specs.Table.{defaults_among, defaults_of, needs_number, types};
 
 use bhv_file::{Avoidance, Shape, Spots};
 use std::alloc::Global;
 
-/// A behaviour of the type of this name before its first parameter. None exactly where no type has it.
+/// A behaviour of the type of this name before its first parameter. None exactly if no type has it.
 pub fn defaults(alloc: Global, name: &[u8]) -> Option<Shape>
     ensures { result ≡ defaults_of name.now }
 {

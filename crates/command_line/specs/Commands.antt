@@ -1,5 +1,5 @@
 -- The commands of the program's jobs, as the command-line crate sees them, and what they find in the words of a line.
--- A command reads the whole line: the word of its job stands where such a crate expects the name of a program.
+-- A command reads the whole line: the word of its job is where such a crate expects the name of a program.
 use Rattle.std.specs.Prelude.{◌≡◌, ℕ, Bool, true, false, List, [], ◌∷◌, codes, bytes_eq, nat_le, ◌&&◌, if◌then◌else◌, Option, Some, None, option_and_then}
 use Rattle.std.specs.List.{list_all}
 use Rattle.std.specs.Option.{option_map_or}
@@ -24,7 +24,7 @@ other_file_rule id = new_rule id
 abbrev pub race_rule : Rule
 race_rule = record (new_rule (codes "race")) { long = Some (codes "race"); action = Some SetTrue }
 
--- `--workers N`, which may be there once: N from 1 to 16, and 1 where it isn't there
+-- `--workers N`, which may be there once: N from 1 to 16, and 1 if it isn't there
 abbrev pub workers_rule : Rule
 workers_rule = record (new_rule (codes "workers")) { long = Some (codes "workers"); parser = Some (Unsigned 1 16); defaults = codes "1" ∷ [] }
 
@@ -62,11 +62,11 @@ number_rule = record (new_rule (codes "number")) { required = true; parser = Som
 abbrev pub generate_command : App
 generate_command = with_rule (new_app (codes "generate")) number_rule
 
--- what a command finds in a line, where it takes it
+-- what a command finds in a line, if it takes it
 abbrev pub found_in : App → List Text → Option (List Row)
 found_in command line = if takes command line then Some (matches_of command line) else None
 
--- the bytes, where a text can hold them
+-- the bytes, if a text can hold them
 abbrev pub text_of : List ℕ → Option (List ℕ)
 text_of bytes = if is_text bytes then Some bytes else None
 
@@ -82,7 +82,7 @@ is_set id found = option_map_or (λ value. bytes_eq value (codes "true")) (first
 abbrev pub bounded : ℕ → ℕ → ℕ → ℕ
 bounded low high number = if nat_le low number && nat_le number high then number else low
 
--- the number that a value spells, where it is within the bounds, as each value is that a command finds for such an argument
+-- the number that a value spells, if it is within the bounds, as each value is that a command finds for such an argument
 abbrev pub bounded_of : ℕ → ℕ → Text → ℕ
 bounded_of low high value = if is_unsigned_in low high value then digits_value 10 (without_leading_plus value) else low
 

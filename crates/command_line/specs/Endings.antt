@@ -1,4 +1,4 @@
--- How a job ends: the files that it loaded, what it wrote, and with which status. All of it is over any job: where one stands by
+-- How a job ends: the files that it loaded, what it wrote, and with which status. All of it is over any job: where one is by
 -- the bytes of its files, and what its tasks may write.
 use Rattle.std.specs.Prelude.{◌≡◌, ℕ, ◌⊎◌, false, List, ◌++◌, Option}
 use Rattle.moos_io.specs.Faults.{Faring, Fell, Rose}
@@ -33,7 +33,7 @@ pub record IsUntouched (sink : Sinking) : Type 0 where
   pub taken : sink.taken_after ≡ sink.taken_before
   pub faults : sink.faults_after ≡ sink.faults_before
 
--- What tasks of one type may come to: a task may write this text and end with this status; and it is written as it comes, where
+-- What tasks of one type may come to: a task may write this text and end with this status; and it is written as it comes, if
 -- every other task writes when all of its text is there.
 pub record Outcomes (T : Type 0) : Type 1 where
   pub MayWrite : T → Status → List ℕ → Type 0
@@ -56,7 +56,7 @@ pub record WroteFront {T : Type 0} (outcomes : Outcomes T) (turn : FileTurn T) (
   pub output : outcomes.MayWrite task status text
   pub took : TookFront sink.taken_before sink.taken_after text
 
--- How a job ends that stands so with its files: it wrote all; or the sink failed behind a front; or it is refused by the first
+-- How a job ends that is so with its files: it wrote all; or the sink failed behind a front; or it is refused by the first
 -- refusal, and wrote nothing; or it wrote nothing when no memory was left, or a front of what is written as it comes.
 abbrev pub Ended : {T : Type 0} → Outcomes T → FileTurn T → Sinking → Status → Type 0
 Ended outcomes turn sink Done = WroteAll outcomes turn Done sink
@@ -99,7 +99,7 @@ pub record FailsFrom {T : Type 0} (run : Surroundings) (turn : List (List ℕ) �
   pub unsure : is_among run.sure name ≡ false
   pub silent : IsUntouched run.sink
 
--- how a job that stands so by the bytes of its files, and has loaded the first ones, goes on and ends: it fails at loading a
+-- how a job that is so by the bytes of its files, and has loaded the first ones, goes on and ends: it fails at loading a
 -- file, or ends with those that it has
 abbrev pub EndsFrom : {T : Type 0} → Outcomes T → Surroundings → (List (List ℕ) → FileTurn T) → List (List ℕ) → Status → Type 0
 EndsFrom outcomes run turn front LoadFault = FailsFrom run turn front

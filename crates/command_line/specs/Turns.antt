@@ -15,7 +15,7 @@ abbrev pub turn_behind : {T A : Type 0} → FileKind → (A → FileTurn T) → 
 turn_behind kind next (Ok value) = next value
 turn_behind kind next (Err fault) = Unfit kind fault
 
--- the folder's file of this name has these bytes, where the folder tells them
+-- the folder's file of this name has these bytes, if the folder tells them
 abbrev pub HasBytes : Option (List ℕ → Option (List ℕ)) → List ℕ → List ℕ → Type 0
 HasBytes told name bytes = IfSome told (λ files. files name ≡ Some bytes)
 
@@ -25,13 +25,13 @@ WasWanted told (Wanted kind name) bytes = HasBytes told name bytes
 WasWanted told (Ready task) bytes = ⊥
 WasWanted told (Unfit kind fault) bytes = ⊥
 
--- a job that stands so by the bytes of its files has loaded the first ones, and loads the second ones behind them, each where
+-- a job that is so by the bytes of its files has loaded the first ones, and loads the second ones behind them, each if
 -- it is wanted
 abbrev pub AreLoaded : {T : Type 0} → Option (List ℕ → Option (List ℕ)) → (List (List ℕ) → FileTurn T) → List (List ℕ) → List (List ℕ) → Type 0
 AreLoaded told turn front [] = Unit {0}
 AreLoaded told turn front (bytes ∷ files) = WasWanted told (turn front) bytes × AreLoaded told turn (front ++ bytes ∷ []) files
 
--- where a job stands whose tasks are among those of several jobs
+-- where a job is whose tasks are among those of several jobs
 abbrev pub turn_as : {T U : Type 0} → (T → U) → FileTurn T → FileTurn U
 turn_as of (Wanted kind name) = Wanted kind name
 turn_as of (Ready task) = Ready (of task)

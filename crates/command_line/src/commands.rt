@@ -136,7 +136,7 @@ fn number_arg<'a>(alloc: Global) -> Arg<'a>
         .value_parser(value_parser!(u64).range(0..=999_999_999))
 }
 
-/// What a command finds in a line, or none where it doesn't take it.
+/// What a command finds in a line, or none if it doesn't take it.
 pub fn found_in<'a>(
     command: Command<'a>,
     line: &'a [Word],
@@ -151,7 +151,7 @@ pub fn found_in<'a>(
     }
 }
 
-/// The name of the file that was found, where a text can hold it.
+/// The name of the file that was found, if a text can hold it.
 pub fn file_in(alloc: Global, matches: &ArgMatches, id: &str) -> Result<Option<Txt>, NoMemory>
     ensures { IfOk result (λ name. name ≡ file_in id.now (rows_of (found_of matches.now))) }
 {
@@ -198,7 +198,7 @@ fn bounded_in(matches: &ArgMatches, id: &str, low: u64, high: u64) -> u64
     }
 }
 
-// The number, where it is within the bounds, and else the lower one.
+// The number, if it is within the bounds, and else the lower one.
 fn bounded(number: u64, low: u64, high: u64) -> u64
     requires { low ≤ high }
     ensures bounded { result ≡ bounded low high number }
@@ -211,7 +211,7 @@ fn bounded(number: u64, low: u64, high: u64) -> u64
     }
 }
 
-// The bytes as a text, where a text can hold them.
+// The bytes as a text, if a text can hold them.
 fn text_of(alloc: Global, bytes: &[u8]) -> Result<Option<Txt>, NoMemory>
     ensures { IfOk result (λ text. text ≡ text_of bytes.now) }
 {

@@ -17,7 +17,7 @@ use std::alloc::Global;
 /// A job, with the names of the files that its command line names.
 #[derive(Debug, Drop)]
 pub enum Job {
-    /// Plays a script, with the helm of a mission where one is named, and reports what came of it. The helm has so many
+    /// Plays a script, with the helm of a mission if one is named, and reports what came of it. The helm has so many
     /// workers, from 1 to 16.
     Play {
         script: Txt,
@@ -47,7 +47,7 @@ pub enum Job {
         order: Order,
     },
     /// Plays a script in order of its stamps with the helm of a mission, which steers the simulated vehicle of a vehicle file,
-    /// and with the contact manager of a contacts file, where one is named. The helm has so many workers, from 1 to 16.
+    /// and with the contact manager of a contacts file, if one is named. The helm has so many workers, from 1 to 16.
     Simulate {
         script: Txt,
         mission: Txt,
@@ -105,7 +105,7 @@ fn play_of(alloc: Global, matches: &ArgMatches) -> Result<Option<Job>, NoMemory>
     }
 }
 
-// The name of a file that need not be there, where one was found; and none where what was found is no name of a file.
+// The name of a file that need not be there, if one was found; and none if what was found is no name of a file.
 fn other_file_in(
     alloc: Global,
     matches: &ArgMatches,

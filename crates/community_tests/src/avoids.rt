@@ -109,7 +109,7 @@ fn contacts_are_kept_clear_of(rt: HostRuntime) {
     keeps_clear(&rt, &copied, &domain);
 }
 
-// What is known of the ship: its position, or nothing.
+// What is known of the vehicle: its position, or nothing.
 fn known(rt: &impl Abort, alloc: Global, is_seen: bool) -> Info {
     let mut info = Info::make(alloc);
     if is_seen {

@@ -14,7 +14,7 @@ use std::process::Abort;
 use std::sync::Wait;
 use turn_lock::TurnLock;
 
-// The bytes of the client's name, none where nobody has the number.
+// The bytes of the client's name, none if nobody has the number.
 fn name_of(names: &Names, client: u32) -> &[u8]
     ensures { result.now ≡ name_of names.now client }
 {
@@ -75,7 +75,7 @@ fn regs_of(rt: &impl Abort, alloc: Global, rules: &Rules) -> Regs {
     regs
 }
 
-// Carries at this stamp. Where a test lets an allocation fail the call is made once more, and posts what was left.
+// Carries at this stamp. If a test lets an allocation fail the call is made once more, and posts what was left.
 fn carry<R: Wait + Abort>(
     rt: &R,
     alloc: Global,
@@ -232,7 +232,7 @@ fn carries<R: Wait + Abort>(rt: &R, alloc: Global, file: &str, calls: &str, post
 
 const ROWS: &[(&str, &str, &str)] = &[
     // Each under the prefix of the first rule that selects it, once, in the order of the posts. One post of the bridge for each
-    // call, also where nothing came.
+    // call, also if nothing came.
     (
         "share X * 0 A_\nshare * * 0 -",
         "0 a X\n0 carry\n1000 a NAV_Y\n1000 b X Z\n1000 carry\n2000 carry",

@@ -20,7 +20,7 @@ fn copy_holds(rt: &impl Abort, alloc: Global, info: &Info, cond: &Cond) -> bool 
     copied.holds(info, b"ACTIVE:SURVEYING")
 }
 
-// What comes of a condition: whether it holds, or None where the text is refused.
+// What comes of a condition: whether it holds, or None if the text is refused.
 fn told(rt: &impl Abort, alloc: Global, info: &Info, condition: &str) -> Option<bool> {
     assert!(rt; condition.len() < 1000);
     match Cond::read(alloc, condition.as_bytes()) {

@@ -89,7 +89,7 @@ const FIVE: &[Turn] = &[
     (&["NAME=b,X=60,Y=0,SPD=1,HDG=90"], b""),
 ];
 
-// A bad report changes nothing; contacts stand in the order of their first reports.
+// A bad report changes nothing; contacts are in the order of their first reports.
 const TWO: &[Turn] = &[
     (&["NAME=c,X=0,Y=70,SPD=0,HDG=0", "NAME=b,X=1"], b""),
     (

@@ -1,7 +1,7 @@
 //! What tests alone show of the community and its helm: that their calls succeed with ample memory, and give what was worked
 //! by hand.
 //!
-//! The tests of these crates stand here, since a crate with tests of its own is proved once more with them. One module for
+//! The tests of these crates are here, since a crate with tests of its own is proved once more with them. One module for
 //! each subject: `posts`, `registrations`, `mailboxes`, `turns` of the lock, `database` and `database_parts`, `clients`,
 //! `bridges` between two communities, `shares` of two scripts with one, of the helm `conditions`, `geometry`, `modes` and `lives`,
 //! `contacts` and `avoids` that keep clear of them, and `vehicles`. What they make of words is `made` in one place.

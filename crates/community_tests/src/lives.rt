@@ -7,7 +7,7 @@ use moos_post::Batch;
 use std::alloc::Global;
 use std::process::Abort;
 
-// A behaviour with the condition `GO = true`, and its turns, a line each. The first line says its duration in milliseconds, where
+// A behaviour with the condition `GO = true`, and its turns, a line each. The first line says its duration in milliseconds, if
 // it has one; whether its time goes on while it is idle, `decay` or `still`; and whether it is perpetual. A turn says the stamp;
 // what happens, which is that its condition is `off`, that it is `on` and the step gives no function, that it `gives` one, that
 // the step `ends`, or that the helm is `parked`; the state that it comes to; and the first letters of the flags that it raises,
@@ -101,7 +101,7 @@ fn behavior(rt: &impl Abort, alloc: Global, line: &str) -> Common {
     }
 }
 
-// What is known where its condition holds, and where it doesn't.
+// What is known if its condition holds, and if it doesn't.
 fn knowledge(rt: &impl Abort, alloc: Global, holds: bool) -> Info {
     let mut info = Info::make(alloc);
     let value = text(rt, alloc, if holds { "true" } else { "false" });

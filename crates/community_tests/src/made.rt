@@ -1,4 +1,4 @@
-// What tests make of words, where memory is left, and how a row of a table is judged.
+// What tests make of words, if memory is left, and how a row of a table is judged.
 use helm_cond::Info;
 use moos_post::{Batch, Milli, Name, Names, Pair, Pattern, Reg, Regs, Txt, Value};
 use std::alloc::Global;

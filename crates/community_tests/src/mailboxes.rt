@@ -28,7 +28,7 @@ fn numbers_wait_until_taken(rt: HostRuntime) {
     takes(&rt, rt.alloc(), &mut mailbox, &[u64::MAX]);
 }
 
-// A law does nothing, and says what it says to whoever calls it.
+// A law is an empty function: its callers get its contract as a fact.
 #[test]
 fn law_holds(_rt: HostRuntime) {
     delivery_law();

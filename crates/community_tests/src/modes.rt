@@ -59,7 +59,7 @@ true false true ACTIVE:RETURNING
 true false false ACTIVE
 false true true INACTIVE";
 
-// What is known where the three are what the words say.
+// What is known if the three are what the words say.
 fn knowledge(rt: &impl Abort, alloc: Global, words: &str) -> Info {
     let mut info = Info::make(alloc);
     for (var, said) in ["DEPLOY", "SURVEY", "RETURN"]

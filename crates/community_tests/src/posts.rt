@@ -1,4 +1,4 @@
-// What each call gives where memory is left.
+// What each call gives if memory is left.
 use crate::made::{name, names, number, regs, text};
 use moos_post::{
     Batch, Copied, Milli, Name, NameFault, Pair, Pattern, PatternFault, Regs, Txt, TxtFault, Value,
@@ -29,7 +29,7 @@ fn numbers(rt: HostRuntime) {
     }
 }
 
-// Why the bytes are no name. Where they are one, a copy of it has these bytes too.
+// Why the bytes are no name. If they are one, a copy of it has these bytes too.
 fn name_fault(rt: &impl Abort, alloc: Global, bytes: &[u8]) -> Option<NameFault> {
     match Name::new(alloc, bytes) {
         Ok(name) => {
@@ -97,7 +97,7 @@ fn names_are_keys(rt: HostRuntime) {
     is_key(&rt, rt.alloc(), &known_name, &known, "nav_x", false);
 }
 
-// Why the bytes are no text. Where they are one, a copy of it has these bytes too.
+// Why the bytes are no text. If they are one, a copy of it has these bytes too.
 fn text_fault(rt: &impl Abort, alloc: Global, bytes: &[u8]) -> Option<TxtFault> {
     match Txt::new(alloc, bytes) {
         Ok(text) => {
@@ -127,7 +127,7 @@ fn bytes_of_texts(rt: HostRuntime) {
     }
 }
 
-// Why the bytes are no pattern. Where they are one, a copy of it has these bytes too.
+// Why the bytes are no pattern. If they are one, a copy of it has these bytes too.
 fn pattern_fault(rt: &impl Abort, alloc: Global, bytes: &[u8]) -> Option<PatternFault> {
     match Pattern::read(alloc, bytes) {
         Ok(pattern) => {

@@ -5,7 +5,7 @@ use moos_reg::{due, matches, selects};
 use std::alloc::Global;
 use std::process::Abort;
 
-// Whether a pattern matches a name, the pattern, and the name, where it isn't empty.
+// Whether a pattern matches a name, the pattern, and the name, if it isn't empty.
 const MATCHES: &str = "yes NAV_X NAV_X
 no NAV_X NAV_Y
 no NAV_X NAV_XY
@@ -46,7 +46,7 @@ yes ****************************************************************
 no aaaaaaaaaaaaaaaaaaaaaaaaaaaaaaaaaaaaaaaaaaaaaaaaaaaaaaaaaaaaaaab
 no *a*a*a*a*a*a*a*a*a*a*a*a*a*a*a*a*a*a*a*a*a*a*a*a*a*a*a*a*a*a*a*b";
 
-// What a row says: whether it holds, and two words, which are empty where they are left out.
+// What a row says: whether it holds, and two words, which are empty if they are left out.
 fn read(row: &str) -> (bool, &str, &str) {
     let mut words = row.split_whitespace();
     let holds = words.next() == Some("yes");

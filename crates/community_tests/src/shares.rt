@@ -80,7 +80,7 @@ const ROWS: &[(&str, &str, &str, &str, &str)] = &[
         "0 1 register\n0 0 post X\n0 1 fetch\n1000 0 post NAV_Y\n1000 1 fetch\n2000 1 fetch",
         "0 0 register\n0 1 post A_X\n1000 1 post NAV_Y\n2000 0 fetch\n2000 1 post",
     ),
-    // Scripts without clients, where the bridge is client 0.
+    // Scripts without clients, if the bridge is client 0.
     (
         "",
         "1 b post Y=1",

@@ -33,7 +33,7 @@ impl Journaled for Journal {
     ghost number = { λ mark. mark.by };
 }
 
-// Adds a mark in the pass's turn, and says whether it did: where no memory is left it gives the journal back as it was.
+// Adds a mark in the pass's turn, and says whether it did: if no memory is left it gives the journal back as it was.
 fn add<R: Wait>(rt: &R, lock: &TurnLock<Journal>, pass: &mut Pass<Journal>, count: u64) -> bool
     requires { IsOf lock.now pass.old × IsFree pass.old }
     ensures { pass.new ≡ record pass.old { seen = pass.new.seen; mine = pass.new.mine } }

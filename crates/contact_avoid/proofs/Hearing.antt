@@ -9,8 +9,8 @@ use Rattle.helm_cond.specs.Learnt.{Knowledge, known_with, latest_of}
 use Rattle.contact_avoid.specs.declared.ranges.Ranges.{Ranges}
 use Rattle.contact_avoid.specs.declared.report.Report.{Report}
 use Rattle.contact_avoid.specs.Contacts.{contacts_after, contacts_with, is_inside, is_report_of, known_number, reported, Picture}
-use Rattle.contact_avoid.specs.Kept.{heard, heard_all, SituationState}
-use Rattle.contact_avoid.specs.Standing.{contact_after, IsSituation}
+use Rattle.contact_avoid.specs.Kept.{heard, heard_all, KnownContactsState}
+use Rattle.contact_avoid.specs.Standing.{contact_after, AreKnownContacts}
 use Rattle.contact_avoid.proofs.Learning.{pair_learnt}
 use Rattle.contact_avoid.proofs.Named.{unknown_before}
 
@@ -35,8 +35,8 @@ outside_more : (ranges : Ranges) (pictures : List Picture) (before : List Pair) 
 outside_more ranges pictures before pair apart name none =
     apart name (unknown_before name (contacts_after before) (reported pair) (ap (λ reports. list_any (is_report_of name) reports) (sym (contacts_more before pair)) ∙ none))
 
-one_heard : (ranges : Ranges) (pictures : List Picture) (before : List Pair) (pair : Pair) (kept : SituationState) → AreOutside ranges pictures before
-    → IsSituation ranges pictures before kept → IsSituation ranges pictures (before ++ pair ∷ []) (heard kept pair)
+one_heard : (ranges : Ranges) (pictures : List Picture) (before : List Pair) (pair : Pair) (kept : KnownContactsState) → AreOutside ranges pictures before
+    → AreKnownContacts ranges pictures before kept → AreKnownContacts ranges pictures (before ++ pair ∷ []) (heard kept pair)
 one_heard ranges pictures before pair kept apart is = record {
   x = latest_number before pair (codes "NAV_X") kept.x is.x;
   y = latest_number before pair (codes "NAV_Y") kept.y is.y;
@@ -45,9 +45,9 @@ one_heard ranges pictures before pair kept apart is = record {
 }
 
 -- all pairs of a mail, one after another
-pub all_heard : (ranges : Ranges) (pictures : List Picture) (before pairs : List Pair) (kept : SituationState) → AreOutside ranges pictures before
-    → IsSituation ranges pictures before kept → IsSituation ranges pictures (before ++ pairs) (heard_all kept pairs)
-all_heard ranges pictures before [] kept apart is = subst (λ all. IsSituation ranges pictures all kept) (sym (append-nil before)) is
+pub all_heard : (ranges : Ranges) (pictures : List Picture) (before pairs : List Pair) (kept : KnownContactsState) → AreOutside ranges pictures before
+    → AreKnownContacts ranges pictures before kept → AreKnownContacts ranges pictures (before ++ pairs) (heard_all kept pairs)
+all_heard ranges pictures before [] kept apart is = subst (λ all. AreKnownContacts ranges pictures all kept) (sym (append-nil before)) is
 all_heard ranges pictures before (pair ∷ more) kept apart is =
-    subst (λ all. IsSituation ranges pictures all (heard_all (heard kept pair) more)) (append_assoc before (pair ∷ []) more)
+    subst (λ all. AreKnownContacts ranges pictures all (heard_all (heard kept pair) more)) (append_assoc before (pair ∷ []) more)
     (all_heard ranges pictures (before ++ pair ∷ []) more (heard kept pair) (outside_more ranges pictures before pair apart) (one_heard ranges pictures before pair kept apart is))

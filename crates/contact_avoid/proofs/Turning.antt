@@ -11,8 +11,8 @@ use Rattle.contact_avoid.specs.declared.manager.Manager.{Manager}
 use Rattle.contact_avoid.specs.declared.ranges.Ranges.{Ranges}
 use Rattle.contact_avoid.specs.declared.report.Report.{Report}
 use Rattle.contact_avoid.specs.Contacts.{batch_at, batches_from, batches_of, contact_posts, contacts_after, said_in_all, inside_at, is_inside, is_report_of, own_after, own_spot, Turns, Picture, picture_after, pictures_from, pictures_of}
-use Rattle.contact_avoid.specs.Kept.{heard_all, posts_from, settled, SituationState}
-use Rattle.contact_avoid.specs.Standing.{contact_after, IsSituation, HasHadTurn, pairs_said, Knows}
+use Rattle.contact_avoid.specs.Kept.{heard_all, posts_from, settled, KnownContactsState}
+use Rattle.contact_avoid.specs.Standing.{contact_after, AreKnownContacts, HasHadTurn, pairs_said, Knows}
 use Rattle.contact_avoid.proofs.Hearing.{all_heard, AreOutside}
 use Rattle.contact_avoid.proofs.Named.{AreNamedOnce, each_found, flat_map_each, map_each, not_found, once_after}
 
@@ -95,22 +95,22 @@ seen_once : (mail : List Letter) (turns : Turns) → AreNamedOnce (contacts_afte
 seen_once mail turns = once_after [] (said_in_all turns ++ pairs_said mail) tt
 
 -- The batch and what is kept after a turn, by what is kept once the mail was heard.
-pub record IsMade (mail : List Letter) (batch : List Pair) (old new : Manager) (fresh : SituationState) : Type 0 where
-  pub fresh_is : fresh ≡ heard_all old.situation (pairs_said mail)
+pub record IsMade (mail : List Letter) (batch : List Pair) (old new : Manager) (fresh : KnownContactsState) : Type 0 where
+  pub fresh_is : fresh ≡ heard_all old.known_contacts (pairs_said mail)
   pub batch_is : batch ≡ flat_map (posts_from old.ranges (own_spot fresh.x fresh.y)) fresh.contacts
   pub ranges : new.ranges ≡ old.ranges
-  pub x : new.situation.x ≡ fresh.x
-  pub y : new.situation.y ≡ fresh.y
-  pub contacts : new.situation.contacts ≡ map (settled old.ranges (own_spot fresh.x fresh.y)) fresh.contacts
+  pub x : new.known_contacts.x ≡ fresh.x
+  pub y : new.known_contacts.y ≡ fresh.y
+  pub contacts : new.known_contacts.contacts ≡ map (settled old.ranges (own_spot fresh.x fresh.y)) fresh.contacts
 
 -- what is kept once the mail was heard is as it should be
-fresh_kept : (mail : List Letter) (batch : List Pair) (old new : Manager) (fresh : SituationState) → IsMade mail batch old new fresh → (ranges : Ranges) (turns : Turns) → Knows ranges turns old
-    → IsSituation ranges (pictures_of turns) (said_in_all turns ++ pairs_said mail) fresh
+fresh_kept : (mail : List Letter) (batch : List Pair) (old new : Manager) (fresh : KnownContactsState) → IsMade mail batch old new fresh → (ranges : Ranges) (turns : Turns) → Knows ranges turns old
+    → AreKnownContacts ranges (pictures_of turns) (said_in_all turns ++ pairs_said mail) fresh
 fresh_kept mail batch old new fresh made ranges turns is =
-    subst (λ kept. IsSituation ranges (pictures_of turns) (said_in_all turns ++ pairs_said mail) kept) (sym made.fresh_is)
-    (all_heard ranges (pictures_of turns) (said_in_all turns) (pairs_said mail) old.situation (all_outside ranges turns) is.kept)
+    subst (λ kept. AreKnownContacts ranges (pictures_of turns) (said_in_all turns ++ pairs_said mail) kept) (sym made.fresh_is)
+    (all_heard ranges (pictures_of turns) (said_in_all turns) (pairs_said mail) old.known_contacts (all_outside ranges turns) is.kept)
 
-posted : (mail : List Letter) (batch : List Pair) (old new : Manager) (fresh : SituationState) → IsMade mail batch old new fresh → (ranges : Ranges) (turns : Turns) → Knows ranges turns old
+posted : (mail : List Letter) (batch : List Pair) (old new : Manager) (fresh : KnownContactsState) → IsMade mail batch old new fresh → (ranges : Ranges) (turns : Turns) → Knows ranges turns old
     → batches_of ranges (turns ++ pairs_said mail ∷ []) ≡ batches_of ranges turns ++ batch ∷ []
 posted mail batch old new fresh made ranges turns is =
     let k = fresh_kept mail batch old new fresh made ranges turns is in
@@ -120,20 +120,20 @@ posted mail batch old new fresh made ranges turns is =
     ∙ batches_more ranges [] (pictures_of turns) (seen mail turns)
     ∙ ap (λ last. batches_of ranges turns ++ last ∷ []) (sym same)
 
-known_on : (mail : List Letter) (batch : List Pair) (old new : Manager) (fresh : SituationState) → IsMade mail batch old new fresh → (ranges : Ranges) (turns : Turns) → Knows ranges turns old
+known_on : (mail : List Letter) (batch : List Pair) (old new : Manager) (fresh : KnownContactsState) → IsMade mail batch old new fresh → (ranges : Ranges) (turns : Turns) → Knows ranges turns old
     → Knows ranges (turns ++ pairs_said mail ∷ []) new
 known_on mail batch old new fresh made ranges turns is =
     let k = fresh_kept mail batch old new fresh made ranges turns is in
-    let contacts : new.situation.contacts ≡ map (contact_after ranges (pictures_of turns ++ seen mail turns ∷ [])) (contacts_after (said_in_all turns ++ pairs_said mail))
+    let contacts : new.known_contacts.contacts ≡ map (contact_after ranges (pictures_of turns ++ seen mail turns ∷ [])) (contacts_after (said_in_all turns ++ pairs_said mail))
     = made.contacts ∙ (λ i. map (settled (is.set i) (own_spot (k.x i) (k.y i))) (k.contacts i)) ∙ settled_same ranges (pictures_of turns) (seen mail turns) (seen_once mail turns) in
-    let behind : IsSituation ranges (pictures_of turns ++ seen mail turns ∷ []) (said_in_all turns ++ pairs_said mail) new.situation
+    let behind : AreKnownContacts ranges (pictures_of turns ++ seen mail turns ∷ []) (said_in_all turns ++ pairs_said mail) new.known_contacts
     = record { x = made.x ∙ k.x; y = made.y ∙ k.y; contacts = contacts } in
     record {
       set = made.ranges ∙ is.set;
-      kept = subst (λ heard. IsSituation ranges (pictures_of (turns ++ pairs_said mail ∷ [])) heard new.situation) (sym (heard_more turns (pairs_said mail)))
-          (subst (λ pictures. IsSituation ranges pictures (said_in_all turns ++ pairs_said mail) new.situation) (sym (pictures_more [] turns (pairs_said mail))) behind);
+      kept = subst (λ heard. AreKnownContacts ranges (pictures_of (turns ++ pairs_said mail ∷ [])) heard new.known_contacts) (sym (heard_more turns (pairs_said mail)))
+          (subst (λ pictures. AreKnownContacts ranges pictures (said_in_all turns ++ pairs_said mail) new.known_contacts) (sym (pictures_more [] turns (pairs_said mail))) behind);
     }
 
 -- A turn that was made so is one turn more.
-pub turned : (mail : List Letter) (batch : List Pair) (old new : Manager) (fresh : SituationState) → IsMade mail batch old new fresh → HasHadTurn mail batch old new
+pub turned : (mail : List Letter) (batch : List Pair) (old new : Manager) (fresh : KnownContactsState) → IsMade mail batch old new fresh → HasHadTurn mail batch old new
 turned mail batch old new fresh made = record { known = known_on mail batch old new fresh made; posted = posted mail batch old new fresh made }

@@ -32,12 +32,12 @@ pub record CanServe (axes : List Axis) (spec : Spec) : Type 0 where
   pub named : IsTrue (has_axes axes spec.shape)
   pub suited : IsTrue (suits axes spec.shape)
 
--- where the contact is and how it moves, where these four numbers are given
+-- where the contact is and how it moves, if these four numbers are given
 abbrev pub track_from : Option ℤ → Option ℤ → Option ℤ → Option ℤ → Option Track
 track_from x y speed heading =
     option_and_then (λ east. option_and_then (λ north. option_and_then (λ fast. option_map (λ angle. record { x = east; y = north; speed = fast; heading = angle }) heading) speed) y) x
 
--- where the contact of these parameters is and how it moves
+-- if the contact of these parameters is and how it moves
 abbrev pub track_in : Avoidance → Option Track
 track_in avoidance = track_from avoidance.contact_x avoidance.contact_y avoidance.contact_speed avoidance.contact_heading
 
@@ -66,22 +66,22 @@ clearance_function axes avoidance own track = record { axes = axes; pieces = cle
 abbrev pub nothing_out : Out
 nothing_out = record { func = None; course = false; speed = false; depth = false; done = false; fault = None }
 
--- it gives the function of a contact that moves so, where that is known
+-- it gives the function of a contact that moves so, if that is known
 abbrev pub out_clear_of : List Axis → Avoidance → Spot → Option Track → Out
 out_clear_of axes avoidance own None = nothing_out
 out_clear_of axes avoidance own (Some track) =
     record { func = Some (clearance_function axes avoidance own track); course = true; speed = true; depth = false; done = false; fault = None }
 
--- what it gives at the own position, without which there is a fault
+-- what it gives at the own position; if that isn't known, there is a fault
 abbrev pub out_seen_from : List Axis → Avoidance → Option Spot → Out
 out_seen_from axes avoidance None = record nothing_out { fault = Some NoPosition }
 out_seen_from axes avoidance (Some own) = out_clear_of axes avoidance own (track_in avoidance)
 
--- what it gives: it is done where the contact is clear for good
+-- what it gives: it is done if the contact is clear for good
 abbrev pub out_by : List Axis → Avoidance → Knowledge → Out
 out_by axes avoidance known = if avoidance.resolved then record nothing_out { done = true } else out_seen_from axes avoidance (position_of known)
 
--- What a step gives over these axes, by what is known; nothing where it is of another type.
+-- What a step gives over these axes, by what is known; nothing if it is of another type.
 abbrev pub avoid_out : List Axis → Shape → Knowledge → Out
 avoid_out axes (AvoidCollision avoidance) known = out_by axes avoidance known
 avoid_out axes other known = nothing_out
@@ -91,12 +91,12 @@ abbrev pub has_track : Shape → Bool
 has_track (AvoidCollision avoidance) = is_some (track_in avoidance)
 has_track other = false
 
--- the utility at a point by a contact that moves so; none where that isn't known
+-- the utility at a point by a contact that moves so; none if that isn't known
 abbrev pub utility_clear_of : List Axis → Avoidance → Spot → Point → Option Track → ℕ
 utility_clear_of axes avoidance own point None = 0
 utility_clear_of axes avoidance own point (Some track) = clearance_at axes avoidance own track point
 
--- The utility of a point where the own ship is here; none where its type is another.
+-- The utility of a point if the own ship is here; none if its type is another.
 abbrev pub avoid_utility : List Axis → Shape → Spot → Point → ℕ
 avoid_utility axes (AvoidCollision avoidance) own point = utility_clear_of axes avoidance own point (track_in avoidance)
 avoid_utility axes other own point = 0

@@ -20,12 +20,12 @@ Turns = List (List Pair)
 abbrev pub said_in_all : Turns → List Pair
 said_in_all turns = flat_map (λ said. said) turns
 
--- the report that a value is, where it is a text
+-- the report that a value is, if it is a text
 abbrev pub report_in : Value → Option Report
 report_in (Num number) = None
 report_in (Text text) = report_of text
 
--- the report that a pair gives, where it is one of NODE_REPORT
+-- the report that a pair gives, if it is one of NODE_REPORT
 abbrev pub reported : Pair → Option Report
 reported pair = if bytes_eq (codes "NODE_REPORT") pair.var then report_in pair.value else None
 
@@ -33,7 +33,7 @@ reported pair = if bytes_eq (codes "NODE_REPORT") pair.var then report_in pair.v
 abbrev pub is_report_of : List ℕ → Report → Bool
 is_report_of name report = bytes_eq report.name name
 
--- the reports with this one in the place of its contact's, and behind them where there is none of its contact
+-- the reports with this one in the place of its contact's, and behind them if there is none of its contact
 abbrev pub with_report : Report → List Report → List Report
 with_report report [] = report ∷ []
 with_report report (other ∷ more) = if is_report_of report.name other then report ∷ more else other ∷ with_report report more
@@ -54,13 +54,13 @@ known_number None = None
 known_number (Some (Num number)) = Some number
 known_number (Some (Text text)) = None
 
--- the own position of these coordinates, where both are known
+-- the own position of these coordinates, if both are known
 abbrev pub own_spot : Option ℤ → Option ℤ → Option Spot
 own_spot None y = None
 own_spot (Some x) None = None
 own_spot (Some x) (Some y) = Some (record { x = x; y = y })
 
--- the own position after all this, known where the latest values of NAV_X and of NAV_Y are numbers
+-- the own position after all this, known if the latest values of NAV_X and of NAV_Y are numbers
 abbrev pub own_after : List Pair → Option Spot
 own_after heard = own_spot (known_number (latest_of heard (codes "NAV_X"))) (known_number (latest_of heard (codes "NAV_Y")))
 
@@ -73,7 +73,7 @@ pub record Picture : Type 0 where
 abbrev pub picture_after : List Pair → Picture
 picture_after heard = record { own = own_after heard; contacts = contacts_after heard }
 
--- the picture of each of these turns, where this was heard before them
+-- the picture of each of these turns, if this was heard before them
 abbrev pub pictures_from : List Pair → Turns → List Picture
 pictures_from before [] = []
 pictures_from before (said ∷ later) = picture_after (before ++ said) ∷ pictures_from (before ++ said) later
@@ -124,12 +124,12 @@ contact_posts false true report = pair_saying (codes "CONTACT_ALERT") report.nam
 contact_posts true true report = pair_saying (codes "CONTACT_INFO") (inside_text report) ∷ []
 contact_posts true false report = pair_saying (codes "CONTACT_RESOLVED") report.name ∷ pair_saying (codes "CONTACT_INFO") (outside_text report) ∷ []
 
--- what is posted of all contacts at the turn of this picture, where turns of those pictures were before
+-- what is posted of all contacts at the turn of this picture, if turns of those pictures were before
 abbrev pub batch_at : Ranges → List Picture → Picture → List Pair
 batch_at ranges before picture =
     flat_map (λ (report : Report). contact_posts (is_inside ranges report.name before) (is_inside ranges report.name (before ++ picture ∷ [])) report) picture.contacts
 
--- what each turn of these pictures posts, where turns of those were before
+-- what each turn of these pictures posts, if turns of those were before
 abbrev pub batches_from : Ranges → List Picture → List Picture → List (List Pair)
 batches_from ranges before [] = []
 batches_from ranges before (picture ∷ later) = batch_at ranges before picture ∷ batches_from ranges (before ++ picture ∷ []) later

@@ -8,14 +8,14 @@ use Rattle.contact_avoid.specs.declared.ranges.Ranges.{Ranges}
 use Rattle.contact_avoid.specs.declared.report.Report.{Report}
 use Rattle.contact_avoid.specs.Contacts.{contact_posts, inside_at, is_report_of, known_number, reported}
 
--- the own position's coordinates, where they are known, and the contacts
-pub record SituationState : Type 0 where
+-- the own position's coordinates, if they are known, and the contacts
+pub record KnownContactsState : Type 0 where
   pub x : Option ℤ
   pub y : Option ℤ
   pub contacts : List Contact
 
 -- nothing is known
-abbrev pub nothing_known : SituationState
+abbrev pub nothing_known : KnownContactsState
 nothing_known = record { x = None; y = None; contacts = [] }
 
 -- the contact has this name
@@ -26,7 +26,7 @@ is_named_as name contact = is_report_of name contact.report
 abbrev pub outside : Report → Contact
 outside report = record { report = report; inside = false }
 
--- the contacts with this report at this place, where the contact stays inside or outside
+-- the contacts with this report at this place, if the contact stays inside or outside
 abbrev pub renewed : Report → List Contact → ℕ → List Contact
 renewed report known place = slice_set known place (record { report = report; inside = (slice_index_or known place (outside report)).inside })
 
@@ -34,7 +34,7 @@ renewed report known place = slice_set known place (record { report = report; in
 abbrev pub with_new : Report → List Contact → List Contact
 with_new report known = if nat_lt (length known) 32 then known ++ outside report ∷ [] else known
 
--- the contacts with this report, where its contact stands at this place
+-- the contacts with this report, if its contact is at this place
 abbrev pub learnt_in_place : Report → List Contact → Option ℕ → List Contact
 learnt_in_place report known None = with_new report known
 learnt_in_place report known (Some place) = renewed report known place
@@ -43,13 +43,13 @@ learnt_in_place report known (Some place) = renewed report known place
 abbrev pub learnt : Report → List Contact → List Contact
 learnt report known = learnt_in_place report known (position (is_named_as report.name) known)
 
--- the same where there may be none
+-- the same if there may be none
 abbrev pub with_reported : Option Report → List Contact → List Contact
 with_reported None known = known
 with_reported (Some report) known = learnt report known
 
 -- what is known once a pair was heard
-abbrev pub heard : SituationState → Pair → SituationState
+abbrev pub heard : KnownContactsState → Pair → KnownContactsState
 heard known pair =
     record {
       x = if bytes_eq (codes "NAV_X") pair.var then known_number (Some pair.value) else known.x;
@@ -58,7 +58,7 @@ heard known pair =
     }
 
 -- what is known once these pairs were heard, one after another
-abbrev pub heard_all : SituationState → List Pair → SituationState
+abbrev pub heard_all : KnownContactsState → List Pair → KnownContactsState
 heard_all known pairs = fold heard known pairs
 
 -- whether a contact is inside at a turn, seen from here

@@ -14,7 +14,7 @@ use Rattle.contact_avoid.specs.declared.range_name.RangeName.{RangeName}
 use Rattle.contact_avoid.specs.declared.range_name.RangeName.TheVariants.{Alert, Clear}
 use Rattle.contact_avoid.specs.declared.ranges.Ranges.{Ranges}
 
--- what stands where a file sets nothing: 50 and 60 metres
+-- what is if a file sets nothing: 50 and 60 metres
 abbrev pub usual_ranges : Ranges
 usual_ranges = record { alert = 50000; clear = 60000 }
 
@@ -66,7 +66,7 @@ ordered last ranges = if nat_le ranges.alert ranges.clear then Ok ranges else Er
 abbrev pub ranges_of : List ℕ → Result Ranges ReadFault
 ranges_of bytes = and_then (ordered (last_line bytes)) (made_of_all C1 with_statement usual_ranges (statements_of bytes))
 
--- a line by its number and its text, which says nothing where it is blank; this serves the reader alone
+-- a line by its number and its text, which says nothing if it is blank; this serves the reader alone
 abbrev pub with_text : ℕ → Ranges → List ℕ → Result Ranges ReadFault
 with_text line ranges [] = Ok ranges
 with_text line ranges (byte ∷ bytes) = made_of C1 with_statement ranges (record { line = line; text = byte ∷ bytes })

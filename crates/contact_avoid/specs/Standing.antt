@@ -9,7 +9,7 @@ use Rattle.contact_avoid.specs.declared.manager.Manager.{Manager}
 use Rattle.contact_avoid.specs.declared.ranges.Ranges.{Ranges}
 use Rattle.contact_avoid.specs.declared.report.Report.{Report}
 use Rattle.contact_avoid.specs.Contacts.{batches_of, contacts_after, is_inside, known_number, Picture, pictures_of, said_in_all, Turns}
-use Rattle.contact_avoid.specs.Kept.{SituationState}
+use Rattle.contact_avoid.specs.Kept.{KnownContactsState}
 
 -- what the letters of a mail say
 abbrev pub pairs_said : List Letter → List Pair
@@ -20,7 +20,7 @@ abbrev pub contact_after : Ranges → List Picture → Report → Contact
 contact_after ranges pictures report = record { report = report; inside = is_inside ranges report.name pictures }
 
 -- what is kept is what these pairs come to, and which contacts are inside is what turns of these pictures come to
-pub record IsSituation (ranges : Ranges) (pictures : List Picture) (heard : List Pair) (kept : SituationState) : Type 0 where
+pub record AreKnownContacts (ranges : Ranges) (pictures : List Picture) (heard : List Pair) (kept : KnownContactsState) : Type 0 where
   pub x : kept.x ≡ known_number (latest_of heard (codes "NAV_X"))
   pub y : kept.y ≡ known_number (latest_of heard (codes "NAV_Y"))
   pub contacts : kept.contacts ≡ map (contact_after ranges pictures) (contacts_after heard)
@@ -28,7 +28,7 @@ pub record IsSituation (ranges : Ranges) (pictures : List Picture) (heard : List
 -- The manager has these ranges, and it knows these turns: it keeps the own position, the contacts, and which of them are inside.
 pub record Knows (ranges : Ranges) (turns : Turns) (manager : Manager) : Type 0 where
   pub set : manager.ranges ≡ ranges
-  pub kept : IsSituation ranges (pictures_of turns) (said_in_all turns) manager.situation
+  pub kept : AreKnownContacts ranges (pictures_of turns) (said_in_all turns) manager.known_contacts
 
 -- The manager has had one turn more: whichever turns it knew, it knows them with this one behind, and the batch is what that turn
 -- posts.

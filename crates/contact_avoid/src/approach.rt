@@ -37,7 +37,7 @@ pub(crate) fn closest(r: Vector, w: Vector) -> Fraction
     }
 }
 
-// Above 0 where the contact goes away, and below 0 where it comes nearer.
+// Above 0 if the contact goes away, and below 0 if it comes nearer.
 fn dot(r: Vector, w: Vector) -> i128
     requires r { PartsLieWithin (10 ^ 7) r }
     requires w { PartsLieWithin (2 * 10 ^ 9) w }

@@ -79,9 +79,9 @@ impl Avoid {
         })
     }
 
-    /// Takes an update over a domain: pairs of a parameter and its value with `#` between. False exactly where one of them
+    /// Takes an update over a domain: pairs of a parameter and its value with `#` between. False exactly if one of them
     /// isn't good or, after all of them, the far distance isn't above the near one or the boxes of the piece size are more
-    /// than 4,096; then nothing changed, nor where no memory was left.
+    /// than 4,096; then nothing changed, nor if no memory was left.
     pub fn update(&mut self, alloc: Global, domain: &Domain, text: &Txt) -> Result<bool, NoMemory>
         ensures good { IfOk result (λ good. updated domain.now self.old text.now ≡ (if good then Some self.new else None)) }
         ensures bad { IfOk result (λ good. good ≡ false → self.new ≡ self.old) }
@@ -149,7 +149,7 @@ fn gives(func: Func) -> Out
     }
 }
 
-/// The utility of a point, in thousandths of 0 to 100, where the own ship is here.
+/// The utility of a point, in thousandths of 0 to 100, if the own ship is here.
 pub fn utility(avoid: &Avoid, domain: &Domain, own: &Spot, p: &Point) -> i64
     requires serves { CanServe domain.now avoid.now }
     requires track { IsTrue (has_track avoid.now.shape) }

@@ -18,7 +18,7 @@ use ivp_func::Func;
 use moos_post::NoMemory;
 use std::alloc::{AllocError, Global};
 
-/// Where the contact is and how it moves, where its four numbers are given.
+/// Where the contact is and how it moves, if its four numbers are given.
 pub(crate) fn track_in(avoidance: &Avoidance) -> Option<Track>
     requires { AvoidsInRanges avoidance.now }
     ensures track { result ≡ track_in avoidance.now }

@@ -18,7 +18,7 @@ pub(crate) struct Contact {
 }
 
 impl Contact {
-    // Whether it is inside at a turn, seen from here. Where the own position isn't known it stays as it was.
+    // Whether it is inside at a turn, seen from here. If the own position isn't known it stays as it was.
     pub fn is_inside(&self, ranges: Ranges, own: Option<Spot>) -> bool
         requires { IfSome own (λ spot. IsTrue (is_spot spot)) }
         ensures { result ≡ inside_from ranges own self.now }

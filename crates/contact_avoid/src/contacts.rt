@@ -10,7 +10,7 @@ use std::alloc::Global;
 /// How many contacts may be known.
 const MOST: usize = 32;
 
-// Learns a report. Where no memory is left all contacts stay as they were.
+// Learns a report. If no memory is left all contacts stay as they were.
 pub(crate) fn learn(known: &mut Vec<Contact>, report: Report) -> Result<(), NoMemory>
     ensures ok { OnOk result (known.new.items ≡ learnt report known.old.items) }
     ensures same { OnErr result (known.new.items ≡ known.old.items) }
@@ -24,7 +24,7 @@ pub(crate) fn learn(known: &mut Vec<Contact>, report: Report) -> Result<(), NoMe
     }
 }
 
-// Where the contact of this name stands.
+// Where the contact of this name is.
 fn place_of(known: &[Contact], name: &[u8]) -> Option<usize>
     ensures { result ≡ position (is_named_as name.now) known.now }
 {

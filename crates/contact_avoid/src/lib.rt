@@ -5,8 +5,8 @@
 //! `batches_of` of all its turns so far; a utility is `approach_utility` of its numbers; what a step of an `Avoid` gives is
 //! `avoid_out` of its parameters.
 //!
-//! Reading order: `range_name` and `ranges`, the contacts file; `report`; then `contact`, `contacts`, `posts`, `situation` and
-//! `manager`. The closest approach stands by itself: `vector`, `sizes`, `approach`, `worth` and `motion`; on it stand
+//! Reading order: `range_name` and `ranges`, the contacts file; `report`; then `contact`, `contacts`, `posts`, `known_contacts` and
+//! `manager`. The closest approach is by itself: `vector`, `sizes`, `approach`, `worth` and `motion`; on it are
 //! `clearance` and `avoid`. Of specs/ read `RangeFiles`, `Reports`, `Contacts`, `Standing`, `Approach` and `Avoids`; `Kept` serves what is kept between turns, and `Bounds` says
 //! how great numbers are.
 #![tactic(auto)]
@@ -16,13 +16,13 @@ mod avoid;
 mod clearance;
 mod contact;
 mod contacts;
+mod known_contacts;
 mod manager;
 mod motion;
 mod posts;
 mod range_name;
 mod ranges;
 mod report;
-mod situation;
 mod sizes;
 mod vector;
 mod worth;

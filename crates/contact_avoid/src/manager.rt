@@ -2,8 +2,8 @@
 ghost use Rattle.std.specs.Prelude.{◌≡◌, [], IfOk, OnErr};
 ghost use Rattle.contact_avoid.specs.Standing.{HasHadTurn, Knows};
 
+use crate::known_contacts::KnownContacts;
 use crate::ranges::Ranges;
-use crate::situation::Situation;
 use moos_db::Mail;
 use moos_post::{Batch, Copied, NoMemory};
 use std::alloc::Global;
@@ -13,7 +13,7 @@ use std::alloc::Global;
 #[derive(Drop)]
 pub struct Manager {
     ranges: Ranges,
-    situation: Situation,
+    known_contacts: KnownContacts,
 }
 
 impl Manager {
@@ -23,22 +23,22 @@ impl Manager {
     {
         Manager {
             ranges,
-            situation: Situation::new(alloc),
+            known_contacts: KnownContacts::new(alloc),
         }
     }
 
     /// One turn: the manager hears a mail, of which `NAV_X`, `NAV_Y` and `NODE_REPORT` say something to it, and gives what it
-    /// posts, contact by contact, in the order of their first reports. Where no memory is left the manager is as it was.
+    /// posts, contact by contact, in the order of their first reports. If no memory is left the manager is as it was.
     pub fn turn(&mut self, alloc: Global, mail: &Mail) -> Result<Batch, NoMemory>
         ensures same { OnErr result (self.new ≡ self.old) }
         ensures turned { IfOk result (λ batch. HasHadTurn mail.now batch self.old self.new) }
     {
-        let mut fresh = self.situation.copy(alloc)?;
+        let mut fresh = self.known_contacts.copy(alloc)?;
         fresh.hear_all(alloc, mail.all())?;
         let own = fresh.own();
         let batch = fresh.batch(alloc, self.ranges, own)?;
         fresh.settle(self.ranges, own);
-        self.situation = fresh;
+        self.known_contacts = fresh;
         Ok(batch)
     }
 }

@@ -20,8 +20,8 @@ pub struct Track {
     pub heading: i64,
 }
 
-/// The utility of a speed and a course, in thousandths of 0 to 100, where the own ship is here and the contact there: 0
-/// where the closest approach is at most the near distance, and 100,000 where it is at least the far one. Distances and
+/// The utility of a speed and a course, in thousandths of 0 to 100, if the own ship is here and the contact there: 0
+/// if the closest approach is at most the near distance, and 100,000 if it is at least the far one. Distances and
 /// speeds are in thousandths, angles in thousandths of a degree. A contact more than 10,000,000 thousandths away along
 /// east or north counts as far.
 pub fn approach_utility(

@@ -28,7 +28,7 @@ impl RangeName {
     }
 }
 
-// A number of thousandths as a distance, where it is from 0 to 10,000,000.
+// A number of thousandths as a distance, if it is from 0 to 10,000,000.
 pub(crate) fn distance(number: i64) -> Option<u32>
     ensures { result ≡ range_distance number }
 {

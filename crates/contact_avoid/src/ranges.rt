@@ -10,9 +10,9 @@ use moos_text::{Cause, ReadFault, cut_at_equals, next_said, read_milli};
 /// The ranges of a contact manager, in thousandths of a metre.
 #[derive(Clone, Copy, Debug, PartialEq, Eq)]
 pub struct Ranges {
-    /// A contact outside comes inside where it is no farther away than this.
+    /// A contact outside comes inside if it is no farther away than this.
     pub alert: u32,
-    /// A contact inside goes outside where it is farther away than this.
+    /// A contact inside goes outside if it is farther away than this.
     pub clear: u32,
 }
 
@@ -45,7 +45,7 @@ impl Ranges {
         }
     }
 
-    // Reads one line more, which has this number and says this; nothing where it is blank.
+    // Reads one line more, which has this number and says this; nothing if it is blank.
     fn read_line(&mut self, line: u32, text: &[u8], unclosed: bool) -> Result<(), ReadFault>
         requires { unclosed ≡ is_unclosed text.now }
         ensures read { IfOk result (λ _. with_text line self.old text.now ≡ Ok self.new) }
@@ -97,7 +97,7 @@ impl Ranges {
         }
     }
 
-    // The same ranges, where they may stand so in a file with this last line.
+    // The same ranges, if they may be so in a file with this last line.
     fn ordered(self, last: u32) -> Result<Ranges, ReadFault>
         ensures read { IfOk result (λ ranges. ordered last self ≡ Ok ranges) }
         ensures refused { IfErr result (λ fault. ordered last self ≡ Err fault) }

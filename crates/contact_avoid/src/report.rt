@@ -18,7 +18,7 @@ pub struct Report {
     pub name: Name,
     /// How far east it is, in metres, within 1,000,000 either way.
     pub x: Milli,
-    /// How far north it is, likewise.
+    /// How far north it is, in the same unit.
     pub y: Milli,
     /// Its speed in metres a second, from 0 to 100.
     pub speed: Milli,
@@ -52,7 +52,7 @@ impl Copied for Report {
     }
 }
 
-/// The report that a text is, and None exactly where it is no good one. NoMemory is answered only where there is none for
+/// The report that a text is, and None exactly if it is no good one. NoMemory is answered only if there is none for
 /// the name.
 pub fn read_report(alloc: Global, text: &[u8]) -> Result<Option<Report>, NoMemory>
     ensures { IfOk result (λ report. report ≡ report_of text.now) }
@@ -105,7 +105,7 @@ fn has_sides(field: &[u8]) -> bool
     cut_at_equals(field).is_some()
 }
 
-// The number under this key, where it stands once and is in its range.
+// The number under this key, if it occurs once and is in its range.
 fn number_under(text: &[u8], key: &[u8], low: i64, high: i64) -> Option<Milli>
     ensures { result ≡ number_under text.now key.now low high }
 {
@@ -117,7 +117,7 @@ fn number_under(text: &[u8], key: &[u8], low: i64, high: i64) -> Option<Milli>
     }
 }
 
-// The name, where it stands once and is one of at most 32 bytes.
+// The name, if it occurs once and is one of at most 32 bytes.
 fn contact_name(alloc: Global, text: &[u8]) -> Result<Option<Name>, NoMemory>
     ensures { IfOk result (λ name. name ≡ contact_name text.now) }
 {
@@ -134,7 +134,7 @@ fn contact_name(alloc: Global, text: &[u8]) -> Result<Option<Name>, NoMemory>
     }
 }
 
-// The value under this key, where it stands once.
+// The value under this key, if it occurs once.
 fn value_of<'a>(text: &'a [u8], key: &[u8]) -> Option<&'a [u8]>
     ensures { option_map (λ value. value.now) result ≡ value_of key.now text.now }
 {
@@ -165,7 +165,7 @@ fn value_under<'a>(field: &'a [u8], key: &[u8]) -> Option<&'a [u8]>
     }
 }
 
-// The first field, and what stands behind its comma, where it has one.
+// The first field, and what follows its comma, if it has one.
 #[tactic(auto, using(crate::proofs::Fields::cut_at, crate::proofs::Fields::not_cut))]
 fn cut_at_comma(text: &[u8]) -> (&[u8], Option<&[u8]>)
     ensures fields { report_fields text.now ≡ result.0.now ∷ fields_left result.1 }
@@ -179,7 +179,7 @@ fn cut_at_comma(text: &[u8]) -> (&[u8], Option<&[u8]>)
     }
 }
 
-// Where the first comma stands, or the end.
+// Where the first comma is, or the end.
 #[tactic(auto, using(crate::proofs::Fields::end_within))]
 fn field_end(text: &[u8]) -> usize
     ensures end { result ≡ position_or_len is_comma text.now }

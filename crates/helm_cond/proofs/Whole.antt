@@ -8,7 +8,7 @@ use Rattle.helm_cond.specs.Flat.{names_among, bare, only_test}
 use Rattle.helm_cond.specs.Grammar.{with_symbol, condition_said}
 use Rattle.helm_cond.specs.Learnt.{Knowledge}
 use Rattle.helm_cond.specs.Levels.{accepts, fresh_level, LeadsTo}
-use Rattle.helm_cond.specs.Told.{condition_in, no_condition, IsTold}
+use Rattle.helm_cond.specs.KeptConditions.{condition_in, no_condition, IsKeptCondition}
 use Rattle.helm_cond.proofs.Flat.{names_said, parent_said}
 use Rattle.helm_cond.proofs.Telling.{accepted_said, told_whole}
 
@@ -55,11 +55,11 @@ next_symbols found done symbol None is = is
 next_symbols found done symbol (Some after) is = is ∙ ap Some (sym (append_assoc done (symbol ∷ []) after))
 
 -- the names that are kept are those in the condition
-pub names_kept : (symbols : List Symbol) (names : List (List ℕ)) → IsTold symbols names → names_in (condition_in symbols) ≡ names
+pub names_kept : (symbols : List Symbol) (names : List (List ℕ)) → IsKeptCondition symbols names → names_in (condition_in symbols) ≡ names
 names_kept symbols names told = names_said symbols (condition_in symbols) (some_is (condition_said symbols) told.said) ∙ sym told.vars
 
 -- the parent that is named is that of the condition
-pub parent_kept : (symbols : List Symbol) (names : List (List ℕ)) → IsTold symbols names →
+pub parent_kept : (symbols : List Symbol) (names : List (List ℕ)) → IsKeptCondition symbols names →
     parent_of (condition_in symbols) ≡ option_and_then (λ comparison. mode_named comparison comparison.operator) (only_test (bare symbols))
 parent_kept symbols names told = parent_said symbols (condition_in symbols) (some_is (condition_said symbols) told.said)
 

@@ -6,7 +6,7 @@ use Rattle.std.proofs.lemmas.List.Sums.{fold-append}
 use Rattle.helm_cond.specs.declared.symbol.Symbol.{Symbol}
 use Rattle.helm_cond.specs.declared.symbol.Symbol.TheVariants.{Open, Close, Not as NotWord, And as AndWord, Or as OrWord, Test}
 use Rattle.helm_cond.specs.Conditions.{Condition, Compare, Not, And, Or}
-use Rattle.helm_cond.specs.Told.{no_condition}
+use Rattle.helm_cond.specs.KeptConditions.{no_condition}
 
 -- the row of a condition
 abbrev pub postfix : Condition → List Symbol

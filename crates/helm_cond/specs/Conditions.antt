@@ -29,13 +29,13 @@ same_value (Text a) (Text b) = str_eq_ignore_ascii_case a b
 same_value (Num a) (Text b) = false
 same_value (Text a) (Num b) = false
 
--- two numbers in this order; never where one is a text
+-- two numbers in this order; never if one is a text
 abbrev pub in_order : (ℤ → ℤ → Bool) → Value → Value → Bool
 in_order order (Num a) (Num b) = order a b
 in_order order (Num a) (Text b) = false
 in_order order (Text a) b = false
 
--- the value stands so to the literal
+-- the value is so to the literal
 abbrev pub compares : Operator → Value → Value → Bool
 compares Equal value literal = same_value value literal
 compares Unequal value literal = not (same_value value literal)
@@ -53,7 +53,7 @@ known_compares operator (Some value) literal = compares operator value literal
 abbrev pub mode_names : List ℕ → List (List ℕ)
 mode_names text = slice_split (λ byte. byte == 58) text
 
--- the parts of a mode's path, which has none where its text is empty
+-- the parts of a mode's path, which has none if its text is empty
 abbrev pub mode_parts : List ℕ → List (List ℕ)
 mode_parts [] = []
 mode_parts (byte ∷ bytes) = mode_names (byte ∷ bytes)
@@ -64,7 +64,7 @@ begins_with [] path = true
 begins_with (part ∷ parts) [] = false
 begins_with (part ∷ parts) (name ∷ path) = str_eq_ignore_ascii_case part name && begins_with parts path
 
--- the parts stand one behind the other somewhere in the path
+-- the parts are one behind the other somewhere in the path
 abbrev pub stands_in : List (List ℕ) → List (List ℕ) → Bool
 stands_in parts [] = false
 stands_in parts (name ∷ path) = begins_with parts (name ∷ path) || stands_in parts path

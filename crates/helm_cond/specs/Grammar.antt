@@ -1,5 +1,5 @@
--- The grammar of a condition: what its bytes stand for, or nothing where they are no condition. The bytes are cut into
--- tokens, three tokens make a comparison, and of what stands between a pair of parentheses `or` binds weakest, then
+-- The grammar of a condition: what its bytes stand for, or nothing if they are no condition. The bytes are cut into
+-- tokens, three tokens make a comparison, and of what is between a pair of parentheses `or` binds weakest, then
 -- `and`, then `not`.
 use Rattle.std.specs.Prelude.{ℕ, zero, suc, Bool, true, false, not, ◌&&◌, ◌||◌, ◌==◌, nat_lt, if◌then◌else◌, List, [], ◌∷◌, codes, bytes_eq, Option, Some, None, is_none, option_map, option_and_then}
 use Rattle.std.specs.Result.{result_ok}
@@ -24,7 +24,7 @@ pub data Token : Type 0 where
   Unclosed : Token
   Word : List ℕ → Token
 
--- the byte stands in an operator
+-- the byte is in an operator
 abbrev pub is_operator_byte : ℕ → Bool
 is_operator_byte byte = byte == 61 || byte == 33 || byte == 60 || byte == 62
 
@@ -32,7 +32,7 @@ is_operator_byte byte = byte == 61 || byte == 33 || byte == 60 || byte == 62
 abbrev pub is_parenthesis_byte : ℕ → Bool
 is_parenthesis_byte byte = byte == 40 || byte == 41
 
--- the byte stands in a word: no blank, no quote, no parenthesis, and not in an operator
+-- the byte is in a word: no blank, no quote, no parenthesis, and not in an operator
 abbrev pub is_plain : ℕ → Bool
 is_plain byte = not (is_blank byte || is_quote byte || is_parenthesis_byte byte || is_operator_byte byte)
 
@@ -51,7 +51,7 @@ onto_token byte (Opening ∷ tokens) = Opening ∷ tokens
 onto_token byte (Closing ∷ tokens) = Closing ∷ tokens
 onto_token byte (Unclosed ∷ tokens) = Unclosed ∷ tokens
 
--- the tokens with one byte in front that stands outside quotes, or opens a quote
+-- the tokens with one byte in front that is outside quotes, or opens a quote
 abbrev pub with_plain : ℕ → List ℕ → List Token → List Token
 with_plain byte bytes tokens =
     if is_blank byte || is_quote byte then tokens
@@ -86,7 +86,7 @@ operator_of sign =
     else if bytes_eq sign (codes ">=") then Some AtLeast
     else None
 
--- a literal: a text in quotes, or a word, which is a number where it is one
+-- a literal: a text in quotes, or a word, which is a number if it is one
 abbrev pub literal_of : Token → Option Value
 literal_of (Quoted bytes) = result_ok (text_value bytes)
 literal_of (Word bytes) = result_ok (plain_value (milli_of bytes) bytes)
@@ -131,7 +131,7 @@ symbols_of (Sign sign ∷ tokens) = None
 symbols_of (Quoted text ∷ tokens) = None
 symbols_of (Unclosed ∷ tokens) = None
 
--- what stands at one level of parentheses: the three words, and operands, each a comparison or what a pair holds
+-- what is at one level of parentheses: the three words, and operands, each a comparison or what a pair holds
 pub data Item : Type 0 where
   Operand : Option Condition → Item
   NotItem : Item
@@ -150,7 +150,7 @@ negated_first (Last one) = Last (Not one)
 negated_first (AndThen one rest) = AndThen (Not one) rest
 negated_first (OrElse one rest) = OrElse (Not one) rest
 
--- an operand before others, or nothing where it is none
+-- an operand before others, or nothing if it is none
 abbrev pub joined : (Condition → Chain → Chain) → Option Condition → Option Chain → Option Chain
 joined join (Some one) rest = option_map (join one) rest
 joined join None rest = None
@@ -167,7 +167,7 @@ chain_of (Operand one ∷ NotItem ∷ items) = None
 chain_of (AndItem ∷ items) = None
 chain_of (OrItem ∷ items) = None
 
--- what stands before an `and`, if anything does, and the operand behind it
+-- what is before an `and`, if anything does, and the operand behind it
 abbrev pub and_also : Option Condition → Condition → Condition
 and_also None one = one
 and_also (Some before) one = And before one
@@ -182,7 +182,7 @@ chain_condition before (OrElse one rest) = Or (and_also before one) (chain_condi
 abbrev pub level_condition : List Item → Option Condition
 level_condition items = option_map (chain_condition None) (chain_of items)
 
--- what stands, at some place of a condition, behind it at its level, and behind it at each of the levels around
+-- what is, at some place of a condition, behind it at its level, and behind it at each of the levels around
 pub record Nesting : Type 0 where
   pub here : List Item
   pub around : List (List Item)
@@ -195,7 +195,7 @@ nested here around = record { here = here; around = around }
 abbrev pub onto_level : Item → Nesting → Nesting
 onto_level item behind = nested (item ∷ behind.here) behind.around
 
--- what stands between a `(` and its `)` is one operand of the level around; a `(` that none closes makes no operand
+-- what is between a `(` and its `)` is one operand of the level around; a `(` that none closes makes no operand
 abbrev pub grouped : List Item → List (List Item) → Nesting
 grouped here [] = nested (Operand None ∷ here) []
 grouped here (next ∷ more) = nested (Operand (level_condition here) ∷ next) more
@@ -232,6 +232,6 @@ condition_said symbols =
     let whole = levels_of symbols in
     if is_shallow 0 symbols then outermost whole.here whole.around else None
 
--- The condition that bytes stand for, or nothing where they are no condition.
+-- The condition that bytes stand for, or nothing if they are no condition.
 abbrev pub condition_of : List ℕ → Option Condition
 condition_of bytes = option_and_then condition_said (symbols_of (tokens_of bytes))

@@ -29,7 +29,7 @@ accepts depth true (Test comparison ∷ symbols) = false
 abbrev pub fresh_level : Level
 fresh_level = record { any = false; all = true; negated = false }
 
--- whether the level's condition holds, where it ends here
+-- whether the level's condition holds, if it ends here
 abbrev pub level_holds : Level → Bool
 level_holds level = level.any || level.all
 
@@ -45,14 +45,14 @@ with_not level = record { any = level.any; all = level.all; negated = not level.
 abbrev pub with_or : Level → Level
 with_or level = record { any = level.any || level.all; all = true; negated = false }
 
--- whether the outermost level's condition holds, where only that one is open
+-- whether the outermost level's condition holds, if only that one is open
 abbrev pub whole_holds : List Level → Option Bool
 whole_holds [] = None
 whole_holds (level ∷ []) = Some (level_holds level)
 whole_holds (level ∷ outer ∷ more) = None
 
 -- The answer that comes of these symbols behind what was read of each level that is open, the innermost first; none
--- where they make no condition whole.
+-- if they make no condition whole.
 abbrev pub answer_of : (Comparison → Bool) → Bool → List Level → List Symbol → Option Bool
 answer_of test true levels [] = whole_holds levels
 answer_of test false levels [] = None

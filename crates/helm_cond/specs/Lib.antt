@@ -10,4 +10,4 @@ pub mod Modes
 pub mod Phrases
 pub mod Stacks
 pub mod Tokens
-pub mod Told
+pub mod KeptConditions

@@ -2,7 +2,7 @@
 --     condition   = conjunction | conjunction or condition
 --     conjunction = operand | conjunction and operand
 --     operand     = comparison | not operand | ( condition )
--- The number says how many parentheses may stand one within another.
+-- The number says how many parentheses may be one within another.
 use Rattle.std.specs.Prelude.{ℕ, suc, List, [], ◌∷◌, ◌++◌}
 use Rattle.helm_cond.specs.declared.comparison.Comparison.{Comparison}
 use Rattle.helm_cond.specs.declared.symbol.Symbol.{Symbol}

@@ -4,7 +4,7 @@ use Rattle.helm_cond.specs.declared.token.TokenKind.{TokenKind}
 use Rattle.helm_cond.specs.declared.token.TokenKind.TheVariants.{Opening as IsOpening, Closing as IsClosing, Sign as IsSign, Quoted as IsQuoted, Unclosed as IsUnclosed, Word as IsWord}
 use Rattle.helm_cond.specs.Grammar.{Token, Opening, Closing, Sign, Quoted, Unclosed, Word}
 
--- the token of this kind that says these bytes, where its kind says any
+-- the token of this kind that says these bytes, if its kind says any
 abbrev pub token_said : TokenKind → List ℕ → Token
 token_said IsOpening bytes = Opening
 token_said IsClosing bytes = Closing

@@ -4,7 +4,7 @@ ghost use Rattle.helm_cond.specs.Flat.{names_among, bare, only_test, is_parenthe
 ghost use Rattle.helm_cond.specs.Conditions.{holds};
 ghost use Rattle.helm_cond.specs.Grammar.{condition_of, condition_said};
 ghost use Rattle.helm_cond.specs.Infos.{knowledge_of};
-ghost use Rattle.helm_cond.specs.Told.{condition_in};
+ghost use Rattle.helm_cond.specs.KeptConditions.{condition_in};
 
 use crate::comparison::Comparison;
 use crate::cursor::Cursor;
@@ -32,7 +32,7 @@ impl Model for Cond {
     ghost use Rattle.helm_cond.specs.contracts.symbol.Symbol as symbol;
     ghost use Rattle.helm_cond.specs.Coding.{condition_code};
     ghost use Rattle.helm_cond.specs.Conditions.{Condition};
-    ghost use Rattle.helm_cond.specs.Told.{condition_in, IsTold};
+    ghost use Rattle.helm_cond.specs.KeptConditions.{condition_in, IsKeptCondition};
 
     ghost Value = { Condition };
 
@@ -40,14 +40,14 @@ impl Model for Cond {
 
     ghost view = { λ c. condition_in c.symbols };
 
-    ghost invariant = { λ c. IsTold c.symbols c.names };
+    ghost invariant = { λ c. IsKeptCondition c.symbols c.names };
 }
 
 impl Cond {
     ghost use Rattle.helm_cond.specs.Conditions.{names_in, parent_of};
 
     /// The condition that bytes stand for: comparisons of a name with a literal, joined by `or`, `and` and `not`, with
-    /// parentheses at most 64 deep. They are refused as `BadCondition` only where they are no condition.
+    /// parentheses at most 64 deep. They are refused as `BadCondition` only if they are no condition.
     pub fn read(alloc: Global, text: &[u8]) -> Result<Cond, CondFault>
         requires { length text.now < 2 ^ 32 }
         ensures ok { IfOk result (λ cond. condition_of text.now ≡ Some cond) }
@@ -100,7 +100,7 @@ impl Cond {
         symbols_hold(self.symbols.all(), info, mode)
     }
 
-    /// The literal where the whole condition is one comparison `MODE = X` or `MODE == X`, and None exactly where it isn't.
+    /// The literal if the whole condition is one comparison `MODE = X` or `MODE == X`, and None exactly if it isn't.
     pub fn parent(&self) -> Option<&Value>
         ensures { option_copied result ≡ parent_of self.now }
     {
@@ -126,7 +126,7 @@ fn symbols_hold(symbols: &[Symbol], info: &Info, mode: &[u8]) -> bool
 {
     let mut levels = Levels::outermost();
     for symbol in symbols {
-        levels.tell(symbol, info, mode);
+        levels.add_symbol(symbol, info, mode);
     }
     levels.hold()
 }
@@ -167,7 +167,7 @@ fn is_parenthesis(symbol: &Symbol) -> bool
     matches!(symbol, Symbol::Open | Symbol::Close)
 }
 
-// Keeps a symbol more, and the name in it where it is a comparison.
+// Keeps a symbol more, and the name in it if it is a comparison.
 fn keep(
     alloc: Global,
     symbols: &mut Vec<Symbol>,

@@ -8,7 +8,7 @@ use crate::symbol::Symbol;
 // The most parentheses that may be open.
 const MOST_OPEN: u32 = 64;
 
-// A place between the symbols of a condition: how many parentheses are open there, and whether an operand stands
+// A place between the symbols of a condition: how many parentheses are open there, and whether an operand is
 // before it.
 #[derive(Clone, Copy)]
 pub(crate) struct Cursor {
@@ -35,7 +35,7 @@ impl Cursor {
         self.ready && self.open == 0
     }
 
-    // The place behind this symbol, which may not stand everywhere.
+    // The place behind this symbol, which may not be everywhere.
     pub fn behind(self, symbol: &Symbol) -> Option<Cursor>
         ensures { MatchOption result
             ((more : List Symbol) → accepts self.open self.ready (symbol.now ∷ more) ≡ false)

@@ -24,7 +24,7 @@ impl Info {
         }
     }
 
-    /// Learns this value of a variable. Where no memory is left for it, all stays known as it was.
+    /// Learns this value of a variable. If no memory is left for it, all stays known as it was.
     pub fn learn(&mut self, alloc: Global, var: &Name, value: &Value) -> Result<(), NoMemory>
         ensures ok { OnOk result ((other : List ℕ) → knowledge_of self.new other ≡ known_with (knowledge_of self.old) var.now value.now other) }
         ensures same { OnErr result ((other : List ℕ) → knowledge_of self.new other ≡ knowledge_of self.old other) }
@@ -46,7 +46,7 @@ impl Info {
         Ok(())
     }
 
-    /// The latest value of the variable, and None exactly where none was learnt.
+    /// The latest value of the variable, and None exactly if none was learnt.
     pub fn get(&self, var: &[u8]) -> Option<&Value>
         ensures { option_copied result ≡ knowledge_of self.now var.now }
     {

@@ -2,14 +2,14 @@
 ghost use Rattle.std.specs.Prelude.{◌≡◌};
 ghost use Rattle.helm_cond.specs.Levels.{fresh_level, level_holds, with_operand, with_not, with_or};
 
-// What was read of a level of parentheses: of the outermost one, or of what stands between a pair.
+// What was read of a level of parentheses: of the outermost one, or of what is between a pair.
 #[derive(Clone, Copy)]
 pub(crate) struct Level {
     // An alternative before the last `or` holds.
     any: bool,
     // All holds that the last alternative asks for so far.
     all: bool,
-    // An odd number of `not` stands before what comes next.
+    // An odd number of `not` is before what comes next.
     negated: bool,
 }
 
@@ -25,7 +25,7 @@ impl Level {
         }
     }
 
-    // Whether its condition holds, where it ends here.
+    // Whether its condition holds, if it ends here.
     pub fn holds(self) -> bool
         ensures { result ≡ level_holds self }
     {

@@ -65,21 +65,21 @@ impl Levels {
         self.operand(holds);
     }
 
-    // An operand that holds or not stands next at the innermost level.
+    // An operand that holds or not is next at the innermost level.
     pub fn operand(&mut self, holds: bool)
         ensures { self.new ≡ on_innermost (with_operand holds) self.old }
     {
         self.levels[self.innermost] = self.levels[self.innermost].with_operand(holds);
     }
 
-    // A `not` stands next at the innermost level.
+    // A `not` is next at the innermost level.
     pub fn negate(&mut self)
         ensures { self.new ≡ on_innermost with_not self.old }
     {
         self.levels[self.innermost] = self.levels[self.innermost].with_not();
     }
 
-    // An `or` stands next at the innermost level.
+    // An `or` is next at the innermost level.
     pub fn alternative(&mut self)
         ensures { self.new ≡ on_innermost with_or self.old }
     {
@@ -87,7 +87,7 @@ impl Levels {
     }
 
     // A symbol more of a condition that can go on with it.
-    pub fn tell(&mut self, symbol: &Symbol, info: &Info, mode: &[u8])
+    pub fn add_symbol(&mut self, symbol: &Symbol, info: &Info, mode: &[u8])
         requires { (more : List Symbol) × ((answer : Bool) × LeadsTo (comparison_holds (knowledge_of info.now) mode.now) self.old (symbol.now ∷ more) answer) }
         ensures { (more : List Symbol) (answer : Bool) → LeadsTo (comparison_holds (knowledge_of info.now) mode.now) self.old (symbol.now ∷ more) answer → LeadsTo (comparison_holds (knowledge_of info.now) mode.now) self.new more answer }
     {
@@ -101,7 +101,7 @@ impl Levels {
         }
     }
 
-    // Whether the outermost level holds, where it alone is open.
+    // Whether the outermost level holds, if it alone is open.
     pub fn hold(&self) -> bool
         requires { length self.now ≡ 1 }
         ensures { whole_holds self.now ≡ Some result }

@@ -4,7 +4,7 @@ ghost use Rattle.std.specs.List.{before_first, position_or_len};
 ghost use Rattle.helm_cond.specs.Conditions.{mode_names, mode_parts, begins_with, stands_in};
 ghost use Rattle.helm_cond.specs.Modes.{ends_part, begins_text};
 
-// Whether the parts of a text, between its `:`, stand one behind the other in the mode's.
+// Whether the parts of a text, between its `:`, are one behind the other in the mode's.
 pub(crate) fn stands_in_mode(text: &[u8], mode: &[u8]) -> bool
     ensures { result ≡ stands_in (mode_names text.now) (mode_parts mode.now) }
 {
@@ -74,7 +74,7 @@ fn bytes_before_colon(text: &[u8]) -> usize
     first_colon(text).unwrap_or(text.len())
 }
 
-// What stands behind the first name of a mode, where another follows.
+// What follows the first name of a mode, if another follows.
 fn behind_name(mode: &[u8]) -> Option<&[u8]>
     ensures last { IfNone result (mode_names mode.now ≡ mode.now ∷ []) }
     ensures next { IfSome result (λ behind. mode_names mode.now ≡ before_first (λ byte. byte == 58) mode.now ∷ mode_names behind.now) }

@@ -12,14 +12,14 @@ use moos_post::{Name, Value};
 use moos_text::{is_named, read_plain, read_text};
 use std::alloc::Global;
 
-// A symbol, and what stands behind it.
+// A symbol, and what follows it.
 #[derive(Drop)]
 pub(crate) struct NextSymbol<'a> {
     pub symbol: Symbol,
     pub rest: &'a [u8],
 }
 
-// The first symbol of a text; `None` exactly where the text has no token.
+// The first symbol of a text; `None` exactly if the text has no token.
 pub(crate) fn next_symbol(alloc: Global, text: &[u8]) -> Result<Option<NextSymbol<'_>>, CondFault>
     ensures symbol { IfOk result (λ found. MatchOption found
         (tokens_of text.now ≡ [])
@@ -48,7 +48,7 @@ pub(crate) fn next_symbol(alloc: Global, text: &[u8]) -> Result<Option<NextSymbo
     }
 }
 
-// The symbol that a word makes with what stands behind it.
+// The symbol that a word makes with what follows it.
 fn read_word<'a>(alloc: Global, word: &[u8], text: &'a [u8]) -> Result<NextSymbol<'a>, CondFault>
     ensures symbol { IfOk result (λ next. symbols_of (Word word.now ∷ tokens_of text.now) ≡ with_symbol (Some next.symbol) (symbols_of (tokens_of next.rest.now))) }
     ensures within { IfOk result (λ next. length next.rest.now ≤ length text.now) }
@@ -60,7 +60,7 @@ fn read_word<'a>(alloc: Global, word: &[u8], text: &'a [u8]) -> Result<NextSymbo
     }
 }
 
-// The comparison of a variable, where an operator and a literal stand behind it.
+// The comparison of a variable, if an operator and a literal follow it.
 fn read_comparison<'a>(
     alloc: Global,
     var: &[u8],

@@ -19,7 +19,7 @@ pub(crate) enum TokenKind {
     Word,
 }
 
-// A token, the bytes that it says, and what stands behind it.
+// A token, the bytes that it says, and what follows it.
 #[derive(Clone, Copy)]
 pub(crate) struct NextToken<'a> {
     pub kind: TokenKind,
@@ -27,7 +27,7 @@ pub(crate) struct NextToken<'a> {
     pub rest: &'a [u8],
 }
 
-// The first token of a text; `None` exactly where there is none.
+// The first token of a text; `None` exactly if there is none.
 pub(crate) fn next_token(text: &[u8]) -> Option<NextToken<'_>>
     ensures token { MatchOption result
         (tokens_of text.now ≡ [])
@@ -100,14 +100,14 @@ fn quoted(text: &[u8]) -> NextToken<'_>
     }
 }
 
-// Where the first quote stands.
+// Where the first quote is.
 fn first_quote(text: &[u8]) -> Option<usize>
     ensures { result ≡ position is_quote text.now }
 {
     text.iter().position(|&byte| byte == b'"')
 }
 
-// How many bytes stand before the first quote.
+// How many bytes are before the first quote.
 #[tactic(auto, using(moos_text::proofs::WordLemmas::position_or_len_of))]
 fn bytes_before_quote(text: &[u8]) -> usize
     ensures { result ≡ position_or_len is_quote text.now }
@@ -115,14 +115,14 @@ fn bytes_before_quote(text: &[u8]) -> usize
     first_quote(text).unwrap_or(text.len())
 }
 
-// Where the first byte stands that is in no operator.
+// Where the first byte is that is in no operator.
 fn sign_end(text: &[u8]) -> Option<usize>
     ensures { result ≡ position (λ byte. not (is_operator_byte byte)) text.now }
 {
     text.iter().position(|&byte| !is_operator_byte(byte))
 }
 
-// How many bytes in front stand in an operator.
+// How many bytes in front are in an operator.
 #[tactic(auto, using(moos_text::proofs::WordLemmas::position_or_len_of))]
 fn sign_len(text: &[u8]) -> usize
     ensures { result ≡ position_or_len (λ byte. not (is_operator_byte byte)) text.now }
@@ -130,14 +130,14 @@ fn sign_len(text: &[u8]) -> usize
     sign_end(text).unwrap_or(text.len())
 }
 
-// Where the first byte stands that is in no word.
+// Where the first byte is that is in no word.
 fn word_end(text: &[u8]) -> Option<usize>
     ensures { result ≡ position (λ byte. not (is_plain byte)) text.now }
 {
     text.iter().position(|&byte| !is_plain(byte))
 }
 
-// How many bytes in front stand in a word.
+// How many bytes in front are in a word.
 #[tactic(auto, using(moos_text::proofs::WordLemmas::position_or_len_of))]
 fn word_len(text: &[u8]) -> usize
     ensures { result ≡ position_or_len (λ byte. not (is_plain byte)) text.now }

@@ -11,8 +11,8 @@ use Rattle.helm_core.specs.declared.iteration.BhvError.{BhvError}
 use Rattle.helm_core.specs.declared.iteration.BhvNow.{BhvNow}
 use Rattle.helm_core.specs.declared.iteration.Iteration.{Iteration}
 use Rattle.helm_core.specs.declared.iteration.Update.{Update}
-use Rattle.helm_core.specs.declared.outlook.Outlook.{Outlook}
-use Rattle.helm_core.specs.declared.showing.Showing.{Showing}
+use Rattle.helm_core.specs.declared.helm_view.HelmView.{HelmView}
+use Rattle.helm_core.specs.declared.showing.TurnShown.{TurnShown}
 use Rattle.helm_core.specs.Decisions.{decision_made}
 use Rattle.helm_core.specs.Helms.{allstop_text}
 use Rattle.helm_core.specs.Iterations.{all_faults, all_states, all_updates}
@@ -28,22 +28,22 @@ rest_of first course speed depth allstop decision before =
     ++ changed (codes "IVPHELM_ALLSTOP") before allstop
 
 -- the posts, by those that come first, by what is mentioned, and by what is decided
-pub posts_all : (helm : Helm) (now : Outlook) (showings : List Showing) (first posts : List Pair) (course speed depth : Bool) (allstop : List ℕ) (decision : Option Decision) (before : Option (List ℕ))
+pub posts_all : (helm : Helm) (now : HelmView) (showings : List TurnShown) (first posts : List Pair) (course speed depth : Bool) (allstop : List ℕ) (decision : Option Decision) (before : Option (List ℕ))
     → first ≡ first_posts helm now showings → course ≡ mentions_course showings → speed ≡ mentions_speed showings → depth ≡ mentions_depth showings
-    → allstop ≡ allstop_by helm.crew.axes now.parked showings → decision ≡ decision_made helm.crew.axes showings → before ≡ option_map allstop_text helm.allstop
+    → allstop ≡ allstop_by helm.behavior_list.axes now.parked showings → decision ≡ decision_made helm.behavior_list.axes showings → before ≡ option_map allstop_text helm.allstop
     → posts ≡ rest_of first course speed depth allstop decision before → posts ≡ posts_by helm now showings
 posts_all helm now showings first posts course speed depth allstop decision before a b c d e f g is =
     is ∙ ap (λ it. rest_of it course speed depth allstop decision before) a ∙ ap (λ it. rest_of (first_posts helm now showings) it speed depth allstop decision before) b
     ∙ ap (λ it. rest_of (first_posts helm now showings) (mentions_course showings) it depth allstop decision before) c
     ∙ ap (λ it. rest_of (first_posts helm now showings) (mentions_course showings) (mentions_speed showings) it allstop decision before) d
     ∙ ap (λ it. rest_of (first_posts helm now showings) (mentions_course showings) (mentions_speed showings) (mentions_depth showings) it decision before) e
-    ∙ ap (λ it. rest_of (first_posts helm now showings) (mentions_course showings) (mentions_speed showings) (mentions_depth showings) (allstop_by helm.crew.axes now.parked showings) it before) f
-    ∙ ap (rest_of (first_posts helm now showings) (mentions_course showings) (mentions_speed showings) (mentions_depth showings) (allstop_by helm.crew.axes now.parked showings) (decision_made helm.crew.axes showings)) g
+    ∙ ap (λ it. rest_of (first_posts helm now showings) (mentions_course showings) (mentions_speed showings) (mentions_depth showings) (allstop_by helm.behavior_list.axes now.parked showings) it before) f
+    ∙ ap (rest_of (first_posts helm now showings) (mentions_course showings) (mentions_speed showings) (mentions_depth showings) (allstop_by helm.behavior_list.axes now.parked showings) (decision_made helm.behavior_list.axes showings)) g
     ∙ joined (first_posts helm now showings)
-    (desired (codes "DESIRED_HEADING") (codes "course") (mentions_course showings) (decision_made helm.crew.axes showings))
-    (desired_speed (allstop_by helm.crew.axes now.parked showings) (mentions_speed showings) (decision_made helm.crew.axes showings))
-    (desired (codes "DESIRED_DEPTH") (codes "depth") (mentions_depth showings) (decision_made helm.crew.axes showings))
-    (changed (codes "IVPHELM_ALLSTOP") (option_map allstop_text helm.allstop) (allstop_by helm.crew.axes now.parked showings))
+    (desired (codes "DESIRED_HEADING") (codes "course") (mentions_course showings) (decision_made helm.behavior_list.axes showings))
+    (desired_speed (allstop_by helm.behavior_list.axes now.parked showings) (mentions_speed showings) (decision_made helm.behavior_list.axes showings))
+    (desired (codes "DESIRED_DEPTH") (codes "depth") (mentions_depth showings) (decision_made helm.behavior_list.axes showings))
+    (changed (codes "IVPHELM_ALLSTOP") (option_map allstop_text helm.allstop) (allstop_by helm.behavior_list.axes now.parked showings))
 
 abbrev iteration_parts : ℕ → Bool → List ℕ → List Update → List BhvNow → List BhvError → Option Decision → List Pair → Iteration
 iteration_parts stamp parked mode updates states faults decision posts = record {
@@ -57,15 +57,15 @@ iteration_parts stamp parked mode updates states faults decision posts = record 
   posts = posts;
 }
 
-pub answered : (helm : Helm) (stamp : ℕ) (now : Outlook) (answers : List Update) (showings : List Showing) (mode : List ℕ) (updates : List Update) (states : List BhvNow) (faults : List BhvError) (decision : Option Decision) (posts : List Pair)
-    → mode ≡ now.mode → updates ≡ all_updates helm.crew.blocks answers showings → states ≡ all_states showings → faults ≡ all_faults showings → decision ≡ decision_made helm.crew.axes showings → posts ≡ posts_by helm now showings
+pub answered : (helm : Helm) (stamp : ℕ) (now : HelmView) (answers : List Update) (showings : List TurnShown) (mode : List ℕ) (updates : List Update) (states : List BhvNow) (faults : List BhvError) (decision : Option Decision) (posts : List Pair)
+    → mode ≡ now.mode → updates ≡ all_updates helm.behavior_list.blocks answers showings → states ≡ all_states showings → faults ≡ all_faults showings → decision ≡ decision_made helm.behavior_list.axes showings → posts ≡ posts_by helm now showings
     → iteration_parts stamp now.parked mode updates states faults decision posts ≡ iteration_by helm stamp now answers showings
 answered helm stamp now answers showings mode updates states faults decision posts a b c d e f =
     ap (λ it. iteration_parts stamp now.parked it updates states faults decision posts) a ∙ ap (λ it. iteration_parts stamp now.parked now.mode it states faults decision posts) b
-    ∙ ap (λ it. iteration_parts stamp now.parked now.mode (all_updates helm.crew.blocks answers showings) it faults decision posts) c
-    ∙ ap (λ it. iteration_parts stamp now.parked now.mode (all_updates helm.crew.blocks answers showings) (all_states showings) it decision posts) d
-    ∙ ap (λ it. iteration_parts stamp now.parked now.mode (all_updates helm.crew.blocks answers showings) (all_states showings) (all_faults showings) it posts) e
-    ∙ ap (iteration_parts stamp now.parked now.mode (all_updates helm.crew.blocks answers showings) (all_states showings) (all_faults showings) (decision_made helm.crew.axes showings)) f
+    ∙ ap (λ it. iteration_parts stamp now.parked now.mode (all_updates helm.behavior_list.blocks answers showings) it faults decision posts) c
+    ∙ ap (λ it. iteration_parts stamp now.parked now.mode (all_updates helm.behavior_list.blocks answers showings) (all_states showings) it decision posts) d
+    ∙ ap (λ it. iteration_parts stamp now.parked now.mode (all_updates helm.behavior_list.blocks answers showings) (all_states showings) (all_faults showings) it posts) e
+    ∙ ap (iteration_parts stamp now.parked now.mode (all_updates helm.behavior_list.blocks answers showings) (all_states showings) (all_faults showings) (decision_made helm.behavior_list.axes showings)) f
 
 -- one update more of those that are of this name
 pub heard_more : (name : List ℕ) (heard : List Update) (i : ℕ) (update : Update) (before so_far after : List Update) → i < length heard → update ≡ get_or heard i update

@@ -15,7 +15,7 @@ use Rattle.ivp_domain.proofs.Sizes.{four_axes, good_axes}
 use Rattle.ivp_build.proofs.Nearest.{value_within}
 use Rattle.ivp_cert.specs.declared.claim.Decision.{Decision}
 use Rattle.ivp_problem.proofs.KeyOrder.{best_point}
-use Rattle.helm_core.specs.declared.showing.Showing.{Showing}
+use Rattle.helm_core.specs.declared.showing.TurnShown.{TurnShown}
 use Rattle.ivp_cert.specs.Certificates.{best_decision}
 use Rattle.helm_core.specs.Decisions.{active_problem, decision_made, number_at, number_on, some_active}
 use Rattle.bhv_file.proofs.Named.{place_there}
@@ -48,7 +48,7 @@ number_milli axes name point lawful inside = by (position (λ axis. bytes_eq axi
 abbrev pub HasMillis : Decision → Type 0
 HasMillis decision = (name : List ℕ) → IsMilli (number_on decision.problem.axes name decision.claim.point)
 
-pub decided_millis : (axes : List Axis) (showings : List Showing) → is_domain axes ≡ true → IfSome (decision_made axes showings) HasMillis
+pub decided_millis : (axes : List Axis) (showings : List TurnShown) → is_domain axes ≡ true → IfSome (decision_made axes showings) HasMillis
 decided_millis axes showings lawful = by (some_active showings)
   where
     by : (b : Bool) → IfSome (cond b (Some (best_decision (active_problem axes showings))) None) HasMillis

@@ -18,7 +18,7 @@ use Rattle.ivp_func.specs.Functions.{Function}
 use Rattle.ivp_problem.specs.declared.term.Term.{Term}
 use Rattle.ivp_problem.specs.declared.term.ProblemFault.{ProblemFault}
 use Rattle.ivp_problem.specs.Problems.{WeightedSum, bad_weight, is_weight, other_domain, problem_from, same_axis, same_domain}
-use Rattle.helm_core.specs.declared.showing.Showing.{Showing}
+use Rattle.helm_core.specs.declared.showing.TurnShown.{TurnShown}
 use Rattle.helm_core.specs.Decisions.{IsFitTerm, active_term, number_at, some_active, term_of}
 use Rattle.helm_core.specs.Standings.{IsFit, IsOverAxes}
 
@@ -61,8 +61,8 @@ fit_with axes false func weight rest over weighs all = all
 fit_with axes true None weight rest over weighs all = all
 fit_with axes true (Some func) weight rest over weighs all = All-cons (IsFitTerm axes) (term_of weight func) rest (record { weight = weighs refl; over = over }) all
 
--- the active behaviours of a crew
-pub fit_terms : (axes : List Axis) (showings : List Showing) → All (IsFit axes) showings → All (IsFitTerm axes) (filter_map active_term showings)
+-- the active behaviours of a list
+pub fit_terms : (axes : List Axis) (showings : List TurnShown) → All (IsFit axes) showings → All (IsFitTerm axes) (filter_map active_term showings)
 fit_terms axes [] all = All-nil (IsFitTerm axes)
 fit_terms axes (one ∷ showings) all =
     let this : IsFit axes one = All-head (IsFit axes) one showings all in
@@ -73,7 +73,7 @@ few_with false func weight rest n few = omega arith
 few_with true None weight rest n few = omega arith
 few_with true (Some func) weight rest n few = omega arith
 
-pub few_terms : (showings : List Showing) → length (filter_map active_term showings) ≤ length showings
+pub few_terms : (showings : List TurnShown) → length (filter_map active_term showings) ≤ length showings
 few_terms [] = omega arith
 few_terms (one ∷ showings) = few_with one.active one.out.func one.weight (filter_map active_term showings) (length showings) (few_terms showings)
 
@@ -83,20 +83,20 @@ some_with false func weight rest others given is later = later is
 some_with true None weight rest others given is later = absurd (let e : false ≡ true = given refl in cc)
 some_with true (Some func) weight rest others given is later = omega arith
 
-pub some_terms : (axes : List Axis) (showings : List Showing) → All (IsFit axes) showings → some_active showings ≡ true → 0 < length (filter_map active_term showings)
+pub some_terms : (axes : List Axis) (showings : List TurnShown) → All (IsFit axes) showings → some_active showings ≡ true → 0 < length (filter_map active_term showings)
 some_terms axes [] all is = absurd (let e : false ≡ true = is in cc)
 some_terms axes (one ∷ showings) all is =
     some_with one.active one.out.func one.weight (filter_map active_term showings) (some_active showings) (All-head (IsFit axes) one showings all).given is
     (some_terms axes showings (All-tail (IsFit axes) one showings all))
 
-pub terms_first : (terms : List Term) (left all : List Showing) → terms ≡ [] → left ≡ all → terms ++ filter_map active_term left ≡ filter_map active_term all
+pub terms_first : (terms : List Term) (left all : List TurnShown) → terms ≡ [] → left ≡ all → terms ++ filter_map active_term left ≡ filter_map active_term all
 terms_first terms left all none is = ap (λ list. list ++ filter_map active_term left) none ∙ ap (filter_map active_term) is
 
 cons_as_list : (term : Option Term) (rest : List Term) → cons_option term rest ≡ option_to_list term ++ rest
 cons_as_list None rest = refl
 cons_as_list (Some term) rest = refl
 
-pub terms_next : (terms terms' : List Term) (showing : Showing) (before left : List Showing) (all : List Term) → before ≡ showing ∷ left → terms' ≡ terms ++ option_to_list (active_term showing)
+pub terms_next : (terms terms' : List Term) (showing : TurnShown) (before left : List TurnShown) (all : List Term) → before ≡ showing ∷ left → terms' ≡ terms ++ option_to_list (active_term showing)
     → terms ++ filter_map active_term before ≡ all → terms' ++ filter_map active_term left ≡ all
 terms_next terms terms' showing before left all is more so_far =
     ap (λ list. list ++ filter_map active_term left) more ∙ append_assoc terms (option_to_list (active_term showing)) (filter_map active_term left)

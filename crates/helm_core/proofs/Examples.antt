@@ -20,7 +20,7 @@ use Rattle.bhv_life.specs.declared.outcome.BhvState.TheVariants.{Idle, Running, 
 use Rattle.helm_core.specs.declared.iteration.BhvNow.{BhvNow}
 use Rattle.helm_core.specs.Plans.{Plan, wants_of}
 use Rattle.helm_core.specs.Ticks.{Tick, is_parked, stamp_of_last, tick_of}
-use Rattle.helm_core.specs.Moments.{moment_at}
+use Rattle.helm_core.specs.PastIterations.{past_iteration_at}
 use Rattle.helm_core.specs.Posts.{helm_posts, number_pair, text_pair}
 use Rattle.helm_core.specs.Iterations.{iteration_at}
 use Rattle.helm_core.specs.WellFormed.{IsWellFormed}
@@ -152,10 +152,10 @@ known_later : iteration_at moded parked_run 1
 known_later = refl
 
 -- Each iteration has its own letters: those of the one before aren't heard again.
-own_letters : (moment_at moded run 1).seen.letters ≡ []
+own_letters : (past_iteration_at moded run 1).seen.letters ≡ []
 own_letters = refl
 
-own_letters_later : (moment_at moded run 2).seen.letters ≡ overide (codes "true") ∷ []
+own_letters_later : (past_iteration_at moded run 2).seen.letters ≡ overide (codes "true") ∷ []
 own_letters_later = refl
 
 -- Where no mode is declared none is posted, and it is the empty text.

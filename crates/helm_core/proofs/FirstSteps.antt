@@ -10,7 +10,7 @@ use Rattle.moos_post.specs.declared.value.Value.{Value}
 use Rattle.moos_post.specs.declared.value.Value.TheVariants.{Num, Text}
 use Rattle.bhv_file.specs.declared.file.Block.{Block}
 use Rattle.bhv_file.specs.declared.spec.Spec.{Spec}
-use Rattle.bhv_kinds.specs.Turns.{KindTurn, first_step}
+use Rattle.bhv_kinds.specs.Changes.{KindChange, first_step}
 use Rattle.bhv_life.specs.Lives.{BhvPast, can_run, is_stepped, turn_after}
 use Rattle.bhv_life.specs.Runs.{FirstRunIsStepped, NoTimeNoStep, first_stepped}
 use Rattle.bhv_life.proofs.Turning.{past_push}
@@ -24,24 +24,24 @@ use Rattle.helm_core.specs.Ticks.{Seen, Tick}
 use Rattle.helm_core.proofs.Listing.{Lasts, any_block, each_first, list_keeps}
 
 -- updates are no steps
-judged_first : (axes : List Axis) (spec : Spec) (so_far : Judged) (value : Value) → first_step (judged_with axes spec so_far value).turns ≡ first_step so_far.turns
+judged_first : (axes : List Axis) (spec : Spec) (so_far : Judged) (value : Value) → first_step (judged_with axes spec so_far value).changes ≡ first_step so_far.changes
 judged_first axes spec so_far (Num number) = refl
 judged_first axes spec so_far (Text text) = refl
 
-heard_first : (axes : List Axis) (updates : Option (List ℕ)) (spec : Spec) (so_far : Judged) (letter : Pair) → first_step (heard_with axes updates spec so_far letter).turns ≡ first_step so_far.turns
+heard_first : (axes : List Axis) (updates : Option (List ℕ)) (spec : Spec) (so_far : Judged) (letter : Pair) → first_step (heard_with axes updates spec so_far letter).changes ≡ first_step so_far.changes
 heard_first axes updates spec so_far letter = by (option_eq bytes_eq updates (Some letter.var))
   where
-    by : (b : Bool) → first_step (if b then judged_with axes spec so_far letter.value else so_far).turns ≡ first_step so_far.turns
+    by : (b : Bool) → first_step (if b then judged_with axes spec so_far letter.value else so_far).changes ≡ first_step so_far.changes
     by true = judged_first axes spec so_far letter.value
     by false = refl
 
-all_heard_first : (axes : List Axis) (updates : Option (List ℕ)) (spec : Spec) (so_far : Judged) (letters : List Pair) → first_step (fold (heard_with axes updates spec) so_far letters).turns ≡ first_step so_far.turns
+all_heard_first : (axes : List Axis) (updates : Option (List ℕ)) (spec : Spec) (so_far : Judged) (letters : List Pair) → first_step (fold (heard_with axes updates spec) so_far letters).changes ≡ first_step so_far.changes
 all_heard_first axes updates spec so_far [] = refl
 all_heard_first axes updates spec so_far (letter ∷ letters) = all_heard_first axes updates spec (heard_with axes updates spec so_far letter) letters ∙ heard_first axes updates spec so_far letter
 
 -- the first step is the first turn with one
 abbrev KeepsFirst : BhvSoFar → Type 0
-KeepsFirst one = first_step one.turns ≡ first_stepped (past_so_far one)
+KeepsFirst one = first_step one.changes ≡ first_stepped (past_so_far one)
 
 -- a turn more
 stamped : (past : List BhvPast) (one : BhvPast) (b : Bool) → one.stepped ≡ b → first_stepped (past ++ one ∷ []) ≡ option_or (first_stepped past) (if b then Some one.stamp else None)
@@ -61,7 +61,7 @@ or_none None = refl
 or_none (Some x) = refl
 
 turn_first : (axes : List Axis) (seen : Seen) (fault : Bool) (one : BhvSoFar) (judged : Judged) (stepped : Bool) → is_stepped one.block.common (past_so_far one) (beginning_at seen one.block.common) ≡ stepped
-    → first_step judged.turns ≡ first_step one.turns → KeepsFirst one → KeepsFirst (bhv_after seen fault (begun_by_step axes seen one judged stepped))
+    → first_step judged.changes ≡ first_step one.changes → KeepsFirst one → KeepsFirst (bhv_after seen fault (begun_by_step axes seen one judged stepped))
 turn_first axes seen fault one judged true is same keeps =
     let begun = begun_by_step axes seen one judged true in
     ap (λ (o : Option ℕ). option_or o (Some seen.stamp)) (same ∙ keeps)
@@ -77,18 +77,18 @@ one_first : (axes : List Axis) (seen : Seen) (fault : Bool) (one : BhvSoFar) →
 one_first axes seen fault one keeps =
     let letters = if can_run one.block.common (past_so_far one) then seen.letters else [] in
     turn_first axes seen fault one (judged_at axes seen one) (is_stepped one.block.common (past_so_far one) (beginning_at seen one.block.common)) refl
-    (all_heard_first axes (own_updates one) one.block.spec (none_judged one.turns) letters) keeps
+    (all_heard_first axes (own_updates one) one.block.spec (none_judged one.changes) letters) keeps
 
 -- pairs are no steps
-pairs_first : (axes : List Axis) (turns : List KindTurn) (pairs : Option (List ℕ)) → first_step (with_said axes turns pairs) ≡ first_step turns
-pairs_first axes turns None = refl
-pairs_first axes turns (Some pairs) = refl
+pairs_first : (axes : List Axis) (changes : List KindChange) (pairs : Option (List ℕ)) → first_step (with_said axes changes pairs) ≡ first_step changes
+pairs_first axes changes None = refl
+pairs_first axes changes (Some pairs) = refl
 
 first_lasts : Lasts (λ block. Unit {0}) KeepsFirst
 first_lasts = record {
-  turns = one_first;
+  ended = one_first;
   made = λ axes template birth said q named. pairs_first axes [] said.pairs;
-  changed = λ axes said one keeps. pairs_first axes one.turns said.pairs ∙ keeps;
+  changed = λ axes said one keeps. pairs_first axes one.changes said.pairs ∙ keeps;
 }
 
 -- all behaviours keep it

@@ -7,12 +7,12 @@ use Rattle.helm_core.specs.Plans.{Plan}
 use Rattle.helm_core.specs.Behaviors.{BhvSoFar, all_after, all_begun, all_showings}
 use Rattle.helm_core.specs.Lists.{list_before, spawned_at, stays}
 use Rattle.helm_core.specs.Templates.{Spawning, spawned}
-use Rattle.helm_core.specs.Moments.{Moment, moment_at, moment_before}
+use Rattle.helm_core.specs.PastIterations.{PastIteration, past_iteration_at, past_iteration_before}
 use Rattle.helm_core.specs.Iterations.{iteration_at, iteration_of}
 use Rattle.helm_core.specs.Ticks.{Seen, Tick, heard_at, heard_in_all, learnt_at, pairs_mailed, seen_at, tick_stamp}
 
-abbrev moment_with : Plan → Seen → Spawning → Moment
-moment_with plan seen spawning = record { seen = seen; answers = spawning.answers; showings = all_showings seen (all_begun plan.axes seen spawning.ones) }
+abbrev past_iteration_with : Plan → Seen → Spawning → PastIteration
+past_iteration_with plan seen spawning = record { seen = seen; answers = spawning.answers; showings = all_showings seen (all_begun plan.axes seen spawning.ones) }
 
 learnt_same : (ticks later : List Tick) (i : ℕ) → i < length ticks → learnt_at (ticks ++ later) i ≡ learnt_at ticks i
 learnt_same ticks later i l = ap heard_in_all (take-append-le (suc i) ticks later (omega arith))
@@ -47,16 +47,16 @@ spawning_same plan ticks later i l =
     ap (λ seen. spawned plan.axes plan.blocks i seen.letters (list_before plan (ticks ++ later) i)) (seen_same plan.decls ticks later i l)
     ∙ ap (spawned plan.axes plan.blocks i (seen_at plan.decls ticks i).letters) (list_same plan ticks later i (omega arith))
 
-at_same : (plan : Plan) (ticks later : List Tick) (i : ℕ) → i < length ticks → moment_at plan (ticks ++ later) i ≡ moment_at plan ticks i
+at_same : (plan : Plan) (ticks later : List Tick) (i : ℕ) → i < length ticks → past_iteration_at plan (ticks ++ later) i ≡ past_iteration_at plan ticks i
 at_same plan ticks later i l =
-    ap (λ seen. moment_with plan seen (spawned_at plan (ticks ++ later) i)) (seen_same plan.decls ticks later i l)
-    ∙ ap (moment_with plan (seen_at plan.decls ticks i)) (spawning_same plan ticks later i l)
+    ap (λ seen. past_iteration_with plan seen (spawned_at plan (ticks ++ later) i)) (seen_same plan.decls ticks later i l)
+    ∙ ap (past_iteration_with plan (seen_at plan.decls ticks i)) (spawning_same plan ticks later i l)
 
-pub before_same : (plan : Plan) (ticks later : List Tick) (i : ℕ) → i ≤ length ticks → moment_before plan (ticks ++ later) i ≡ moment_before plan ticks i
+pub before_same : (plan : Plan) (ticks later : List Tick) (i : ℕ) → i ≤ length ticks → past_iteration_before plan (ticks ++ later) i ≡ past_iteration_before plan ticks i
 before_same plan ticks later zero l = refl
 before_same plan ticks later (suc i) l = ap Some (at_same plan ticks later i (omega arith))
 
 pub iteration_same : (plan : Plan) (ticks later : List Tick) (i : ℕ) → i < length ticks → iteration_at plan (ticks ++ later) i ≡ iteration_at plan ticks i
 iteration_same plan ticks later i l =
-    ap (λ before. iteration_of plan before (moment_at plan (ticks ++ later) i)) (before_same plan ticks later i (omega arith))
-    ∙ ap (iteration_of plan (moment_before plan ticks i)) (at_same plan ticks later i l)
+    ap (λ before. iteration_of plan before (past_iteration_at plan (ticks ++ later) i)) (before_same plan ticks later i (omega arith))
+    ∙ ap (iteration_of plan (past_iteration_before plan ticks i)) (at_same plan ticks later i l)

@@ -9,8 +9,8 @@ use Rattle.bhv_file.specs.declared.decl.Decl.{Decl}
 use Rattle.helm_cond.specs.Infos.{knowledge_of}
 use Rattle.helm_cond.specs.Learnt.{Knowledge, known_with, latest_of}
 use Rattle.mode_tree.specs.Modes.{mode_text}
-use Rattle.helm_core.specs.declared.outlook.Outlook.{Outlook}
-use Rattle.helm_core.specs.Helms.{HasLearnt, IsOutlook}
+use Rattle.helm_core.specs.declared.helm_view.HelmView.{HelmView}
+use Rattle.helm_core.specs.Helms.{HasLearnt, IsHelmView}
 use Rattle.helm_core.specs.Kept.{known_after, parked_after}
 use Rattle.helm_core.specs.Ticks.{gives_way, is_false, is_override, is_parked, latest_override, pairs_mailed}
 
@@ -42,14 +42,14 @@ pub known_on : (before known after : Knowledge) (rest : List Pair) (pair : Pair)
     → known_after before (pair ∷ rest) ≡ after → known_after known rest ≡ after
 known_on before known after rest pair learnt so_far = ap (λ k. known_after k rest) (λ i other. learnt other i) ∙ so_far
 
-outlook_none : (decls : List Decl) (learnt : List Pair) (outlook : Outlook) → IsOutlook decls learnt outlook → IsOutlook decls (learnt ++ []) outlook
-outlook_none decls learnt outlook is = subst (λ all. IsOutlook decls all outlook) (sym (append-nil learnt)) is
+helm_view_none : (decls : List Decl) (learnt : List Pair) (helm_view : HelmView) → IsHelmView decls learnt helm_view → IsHelmView decls (learnt ++ []) helm_view
+helm_view_none decls learnt helm_view is = subst (λ all. IsHelmView decls all helm_view) (sym (append-nil learnt)) is
 
-pub outlook_more : (decls : List Decl) (mail : List Letter) (old new : Outlook)
+pub helm_view_more : (decls : List Decl) (mail : List Letter) (old new : HelmView)
     → knowledge_of new.info ≡ known_after (knowledge_of old.info) (pairs_mailed mail) → new.parked ≡ parked_after old.parked (pairs_mailed mail)
     → new.mode ≡ mode_text decls (knowledge_of new.info)
     → HasLearnt decls mail old new
-outlook_more decls mail old new known parked mode learnt is =
+helm_view_more decls mail old new known parked mode learnt is =
     let knows : knowledge_of new.info ≡ latest_of (learnt ++ pairs_mailed mail)
     = known ∙ ap (λ k. known_after k (pairs_mailed mail)) is.known ∙ sym (known_more learnt (pairs_mailed mail)) in
     record {
@@ -58,12 +58,12 @@ outlook_more decls mail old new known parked mode learnt is =
       mode = mode ∙ ap (mode_text decls) knows;
     }
 
-pub outlook_first : (decls : List Decl) (outlook : Outlook) → ((var : List ℕ) → knowledge_of outlook.info var ≡ None) → outlook.parked ≡ true
-    → outlook.mode ≡ mode_text decls (knowledge_of outlook.info) → IsOutlook decls [] outlook
-outlook_first decls outlook nothing parked mode =
-    let knows : knowledge_of outlook.info ≡ latest_of [] = λ i var. nothing var i in
+pub helm_view_first : (decls : List Decl) (helm_view : HelmView) → ((var : List ℕ) → knowledge_of helm_view.info var ≡ None) → helm_view.parked ≡ true
+    → helm_view.mode ≡ mode_text decls (knowledge_of helm_view.info) → IsHelmView decls [] helm_view
+helm_view_first decls helm_view nothing parked mode =
+    let knows : knowledge_of helm_view.info ≡ latest_of [] = λ i var. nothing var i in
     record { known = knows; parked = parked; mode = mode ∙ ap (mode_text decls) knows }
 
-pub mail_none : (decls : List Decl) (mail : List Letter) (outlook : Outlook) → length mail ≡ 0 → HasLearnt decls mail outlook outlook
-mail_none decls [] outlook none learnt is = outlook_none decls learnt outlook is
-mail_none decls (letter ∷ mail) outlook none learnt is = absurd (let e : suc (length mail) ≡ 0 = none in cc)
+pub mail_none : (decls : List Decl) (mail : List Letter) (helm_view : HelmView) → length mail ≡ 0 → HasLearnt decls mail helm_view helm_view
+mail_none decls [] helm_view none learnt is = helm_view_none decls learnt helm_view is
+mail_none decls (letter ∷ mail) helm_view none learnt is = absurd (let e : suc (length mail) ≡ 0 = none in cc)

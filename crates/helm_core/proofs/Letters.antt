@@ -12,7 +12,7 @@ use Rattle.moos_text.specs.Pairs.{Sides, sides_of}
 use Rattle.ivp_domain.specs.declared.axis.Axis.{Axis}
 use Rattle.std.specs.List.{before_first}
 use Rattle.bhv_file.specs.declared.file.Block.{Block}
-use Rattle.bhv_kinds.specs.Turns.{params_at}
+use Rattle.bhv_kinds.specs.Changes.{params_at}
 use Rattle.helm_core.specs.declared.iteration.How.TheVariants.{Refused, Changed, Spawned}
 use Rattle.helm_core.specs.declared.named.NamedPairs.{NamedPairs}
 use Rattle.helm_core.specs.Behaviors.{BhvSoFar, Birth}
@@ -56,7 +56,7 @@ module _ (axes : List Axis) (blocks : List Block) (at : ℕ) (Q : Block → Type
 
   known_lasts : (template : Block) (so_far : Spawning) (said : NamedPairs) (place : ℕ) (found : Option BhvSoFar) → slice_get so_far.ones place ≡ found → Q template → I so_far → I (heard_known axes template so_far said place found)
   known_lasts template so_far said place None there q is = lasts.refuses template so_far q is
-  known_lasts template so_far said place (Some one) there q is = by (is_made_of template one && are_good axes (params_at one.block.spec one.turns) said.pairs)
+  known_lasts template so_far said place (Some one) there q is = by (is_made_of template one && are_good axes (params_at one.block.spec one.changes) said.pairs)
     where
       by : (good : Bool) → I (if good then answered template so_far (slice_set so_far.ones place (changed_by axes said one)) Changed else answered template so_far so_far.ones Refused)
       by true = lasts.changes template so_far said place one q there is

@@ -54,7 +54,7 @@ each_after P lasts axes seen fault (one ∷ ones) all = (lasts axes seen fault o
 
 -- what holds of a behaviour: letters and turns leave it, and it holds of one that a letter makes of a template of which this holds
 pub record Lasts (Q : Block → Type 0) (P : BhvSoFar → Type 0) : Type 0 where
-  pub turns : LastsTurns P
+  pub ended : LastsTurns P
   pub made : (axes : List Axis) (template : Block) (birth : Birth) (said : NamedPairs) → Q template → IsTrue (is_name said.name) → P (made_from axes template birth said)
   pub changed : (axes : List Axis) (said : NamedPairs) (one : BhvSoFar) → P one → P (changed_by axes said one)
 
@@ -85,7 +85,7 @@ module _ (Q : Block → Type 0) (P : BhvSoFar → Type 0) (lasts : Lasts Q P) (p
       let ones = (spawned_in plan ticks i (list_before plan ticks i)).ones in
       let all = all_begun plan.axes seen ones in
       each_filtered P stays (map (bhv_after seen (list_any has_fault all)) all)
-      (each_after P lasts.turns plan.axes seen (list_any has_fault all) ones (spawned_keeps i (list_before plan ticks i) (before_keeps i)))
+      (each_after P lasts.ended plan.axes seen (list_any has_fault all) ones (spawned_keeps i (list_before plan ticks i) (before_keeps i)))
 
   pub list_keeps : (i : ℕ) → Each P (list_at plan ticks i)
   list_keeps i = spawned_keeps i (list_before plan ticks i) (before_keeps i)
@@ -101,7 +101,7 @@ each_first P blocks all = mapped (filter (λ (block : Block). not (is_template b
 -- each block of the list is one of the file
 block_lasts : (P : Block → Type 0) → Lasts P (λ one. P one.block)
 block_lasts P = record {
-  turns = λ axes seen fault one holds. subst P (sym (begun_same axes seen one).1) holds;
+  ended = λ axes seen fault one holds. subst P (sym (begun_same axes seen one).1) holds;
   made = λ axes template birth said q named. q;
   changed = λ axes said one holds. holds;
 }
@@ -119,7 +119,7 @@ any_block (block ∷ blocks) = (tt, any_block blocks)
 
 name_lasts : Lasts (λ block. Unit {0}) (λ one. IsNamed one.name)
 name_lasts = record {
-  turns = λ axes seen fault one holds. subst IsNamed (sym (begun_same axes seen one).0) holds;
+  ended = λ axes seen fault one holds. subst IsNamed (sym (begun_same axes seen one).0) holds;
   made = λ axes template birth said q named. named;
   changed = λ axes said one holds. holds;
 }

@@ -15,10 +15,10 @@ use Rattle.bhv_file.specs.declared.spec.Shape.TheVariants.{AvoidCollision}
 use Rattle.bhv_file.specs.Validity.{AreBlocks, is_taken}
 use Rattle.bhv_file.specs.declared.spec.Spec.{Spec}
 use Rattle.bhv_kinds.specs.Giving.{all_done, given_here, gives_by_type, keeping_clear, out_at, situation_at}
-use Rattle.bhv_kinds.specs.Turns.{KindStep, KindTurn, params_at, step_of}
+use Rattle.bhv_kinds.specs.Changes.{KindStep, KindChange, params_at, step_of}
 use Rattle.bhv_life.specs.Lives.{BhvPast, has_completed, is_fresh, is_in_time, is_stepped, passed_at, past_of, runs_at, turn_after}
 use Rattle.bhv_life.proofs.Turning.{past_push}
-use Rattle.helm_core.specs.Behaviors.{BegunTurn, BhvSoFar, Judged, all_begun, begun_at, begun_by_step, beginning_at, bhv_after, has_fault, judged_at, past_so_far, turn_at, unstarted}
+use Rattle.helm_core.specs.Behaviors.{TurnSoFar, BhvSoFar, Judged, all_begun, begun_at, begun_by_step, beginning_at, bhv_after, has_fault, judged_at, past_so_far, turn_at, unstarted}
 use Rattle.helm_core.specs.Lists.{first_list, list_at, list_before, spawned_in, stays}
 use Rattle.helm_core.specs.Names.{OneOfEachContact, ResolvedLeave, ValidFilesNameOnce, clear_of, count_named}
 use Rattle.helm_core.specs.Plans.{Plan, is_template, plan_made}
@@ -193,9 +193,9 @@ pub contacts_once : OneOfEachContact
 contacts_once mission file valid ticks i contact = named_once mission file valid ticks i (clear_of contact)
 
 -- a step of one whose contact is clear for good is done
-done_of : (axes : List Axis) (spec : Spec) (turns : List KindTurn) (step : KindStep) (avoidance : Avoidance) → (params_at spec turns).shape ≡ AvoidCollision avoidance → avoidance.resolved ≡ true → (out_at spec turns step).done ≡ true
-done_of axes spec turns step avoidance of resolved =
-    let found = situation_at spec turns step in
+done_of : (axes : List Axis) (spec : Spec) (changes : List KindChange) (step : KindStep) (avoidance : Avoidance) → (params_at spec changes).shape ≡ AvoidCollision avoidance → avoidance.resolved ≡ true → (out_at spec changes step).done ≡ true
+done_of axes spec changes step avoidance of resolved =
+    let found = situation_at spec changes step in
     ap (λ (shape : Shape). (gives_by_type shape step.known found).done) of
     ∙ ap (λ (b : Bool). (if b then all_done else given_here (keeping_clear avoidance) found.here).done) resolved
 
@@ -204,7 +204,7 @@ completed_last [] one ended = ap (λ (b : Bool). b || false) ended
 completed_last (first ∷ past) one ended = ap (λ (rest : Bool). first.outcome.ended || rest) (completed_last past one ended) ∙ or_last first.outcome.ended
 
 -- and one that a letter made leaves the list behind it
-leaves : (seen : Seen) (fault : Bool) (begun : BegunTurn) → is_some begun.standing.born ≡ true → begun.standing.block.common.perpetual ≡ false
+leaves : (seen : Seen) (fault : Bool) (begun : TurnSoFar) → is_some begun.standing.born ≡ true → begun.standing.block.common.perpetual ≡ false
     → runs_at begun.standing.block.common (past_so_far begun.standing) (beginning_at seen begun.standing.block.common) ≡ true → begun.out.done ≡ true → stays (bhv_after seen fault begun) ≡ false
 leaves seen fault begun made once runs done =
     let common = begun.standing.block.common in
@@ -219,11 +219,11 @@ leaves seen fault begun made once runs done =
     ∙ ap (λ (b : Bool). not (not (not b))) completed
 
 resolved_step : (axes : List Axis) (seen : Seen) (fault : Bool) (one : BhvSoFar) (judged : Judged) (avoidance : Avoidance) (stepped : Bool) → is_some one.born ≡ true → one.block.common.perpetual ≡ false
-    → (params_at one.block.spec judged.turns).shape ≡ AvoidCollision avoidance → avoidance.resolved ≡ true
+    → (params_at one.block.spec judged.changes).shape ≡ AvoidCollision avoidance → avoidance.resolved ≡ true
     → runs_at one.block.common (past_so_far one) (beginning_at seen one.block.common) ≡ true → stepped ≡ true
     → ((begun_by_step axes seen one judged stepped).out.done ≡ true) × (stays (bhv_after seen fault (begun_by_step axes seen one judged stepped)) ≡ false)
 resolved_step axes seen fault one judged avoidance true made once of resolved runs is =
-    let done = done_of axes one.block.spec judged.turns (step_of axes seen.known seen.stamp (is_fresh (past_so_far one))) avoidance of resolved in
+    let done = done_of axes one.block.spec judged.changes (step_of axes seen.known seen.stamp (is_fresh (past_so_far one))) avoidance of resolved in
     (done, leaves seen fault (begun_by_step axes seen one judged true) made once runs done)
 resolved_step axes seen fault one judged avoidance false made once of resolved runs is = absurd (let e : false ≡ true = is in cc)
 

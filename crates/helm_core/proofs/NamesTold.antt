@@ -11,11 +11,11 @@ use Rattle.helm_core.specs.declared.iteration.BhvError.{BhvError}
 use Rattle.helm_core.specs.declared.iteration.How.{How}
 use Rattle.helm_core.specs.declared.iteration.How.TheVariants.{Changed, Refused, Spawned}
 use Rattle.helm_core.specs.declared.iteration.Update.{Update}
-use Rattle.helm_core.specs.declared.showing.Showing.{Showing}
+use Rattle.helm_core.specs.declared.showing.TurnShown.{TurnShown}
 use Rattle.helm_core.specs.Behaviors.{BhvSoFar, begun_at, showing_of}
 use Rattle.helm_core.specs.Iterations.{all_faults, all_states, all_updates, error_of, heard_by_block, iteration_of, update_of, updates_of}
 use Rattle.helm_core.specs.Lists.{list_before, spawned_at}
-use Rattle.helm_core.specs.Moments.{Moment}
+use Rattle.helm_core.specs.PastIterations.{PastIteration}
 use Rattle.helm_core.specs.Plans.{Plan}
 use Rattle.helm_core.specs.Ticks.{Seen, Tick, seen_at}
 use Rattle.helm_core.specs.WellFormed.{names_in_update, names_told}
@@ -23,7 +23,7 @@ use Rattle.helm_core.proofs.Letters.{LastsLetters, spawned_last}
 use Rattle.helm_core.proofs.Listing.{IsNamed, begun_same, each_filtered}
 
 -- a behaviour that an iteration tells has a name
-abbrev HasName : Showing → Type 0
+abbrev HasName : TurnShown → Type 0
 HasName one = IsNamed one.name
 
 -- an update in which all names are names
@@ -35,7 +35,7 @@ taken_named name [] is = tt
 taken_named name (true ∷ taken) is = ((is, tt), taken_named name taken is)
 taken_named name (false ∷ taken) is = ((is, tt), taken_named name taken is)
 
-showings_updated : (showings : List Showing) → Each HasName showings → Each IsNamedUpdate (flat_map updates_of showings)
+showings_updated : (showings : List TurnShown) → Each HasName showings → Each IsNamedUpdate (flat_map updates_of showings)
 showings_updated [] all = tt
 showings_updated (one ∷ showings) all =
     each_append IsNamedUpdate (updates_of one) (flat_map updates_of showings) (taken_named one.name one.taken all.0) (showings_updated showings all.1)
@@ -49,7 +49,7 @@ names_of_updates : (updates : List Update) → Each IsNamedUpdate updates → Ea
 names_of_updates [] all = tt
 names_of_updates (update ∷ updates) all = each_append IsNamed (names_in_update update) (flat_map names_in_update updates) all.0 (names_of_updates updates all.1)
 
-updates_named : (blocks : List Block) (answers : List Update) (showings : List Showing) → Each IsNamedUpdate answers → Each HasName showings → Each IsNamed (flat_map names_in_update (all_updates blocks answers showings))
+updates_named : (blocks : List Block) (answers : List Update) (showings : List TurnShown) → Each IsNamedUpdate answers → Each HasName showings → Each IsNamed (flat_map names_in_update (all_updates blocks answers showings))
 updates_named blocks answers showings named all =
     names_of_updates (all_updates blocks answers showings)
     (blocks_updated (answers ++ flat_map updates_of showings) blocks (each_append IsNamedUpdate answers (flat_map updates_of showings) named (showings_updated showings all)))
@@ -69,7 +69,7 @@ pub answers_named : (plan : Plan) (ticks : List Tick) (i : ℕ) → Each (λ blo
 answers_named plan ticks i all =
     spawned_last plan.axes plan.blocks i (λ block. IsNamed block.common.name) (λ so_far. Each IsNamedUpdate so_far.answers) (answers_last plan.axes plan.blocks i) (seen_at plan.decls ticks i).letters (list_before plan ticks i) all tt
 
-states_named : (showings : List Showing) → Each HasName showings → Each IsNamed (map (λ one. one.name) (all_states showings))
+states_named : (showings : List TurnShown) → Each HasName showings → Each IsNamed (map (λ one. one.name) (all_states showings))
 states_named [] all = tt
 states_named (one ∷ showings) all = (all.0, states_named showings all.1)
 
@@ -82,12 +82,12 @@ fault_named : (name : List ℕ) (fault : Option BhvFault) (rest : List BhvError)
 fault_named name None rest is all = all
 fault_named name (Some fault) rest is all = (is, all)
 
-faults_named : (showings : List Showing) → Each HasName showings → Each IsNamed (map name_in (all_faults showings))
+faults_named : (showings : List TurnShown) → Each HasName showings → Each IsNamed (map name_in (all_faults showings))
 faults_named [] all = tt
 faults_named (one ∷ showings) all = fault_named one.name one.out.fault (all_faults showings) all.0 (faults_named showings all.1)
 
 -- what is told of behaviours with names has these
-pub all_told : (plan : Plan) (before : Option Moment) (now : Moment) → Each IsNamedUpdate now.answers → Each HasName now.showings → All IsNamed (names_told (iteration_of plan before now))
+pub all_told : (plan : Plan) (before : Option PastIteration) (now : PastIteration) → Each IsNamedUpdate now.answers → Each HasName now.showings → All IsNamed (names_told (iteration_of plan before now))
 all_told plan before now named all =
     All-from_recursion IsNamed (names_told (iteration_of plan before now))
     (each_append IsNamed (flat_map names_in_update (all_updates plan.blocks now.answers now.showings)) _ (updates_named plan.blocks now.answers now.showings named all)

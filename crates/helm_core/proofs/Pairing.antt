@@ -15,11 +15,11 @@ use Rattle.bhv_file.specs.declared.file.Block.{Block}
 use Rattle.bhv_file.specs.Validity.{IsValidCommon, flags_of}
 use Rattle.bhv_life.specs.declared.outcome.Outcome.{Outcome}
 use Rattle.bhv_life.specs.Outcomes.{flags_at, raised}
-use Rattle.helm_core.specs.declared.showing.Showing.{Showing}
-use Rattle.helm_core.specs.Behaviors.{BegunTurn, BhvSoFar, begun_at, has_fault, outcome_at, showing_of}
+use Rattle.helm_core.specs.declared.showing.TurnShown.{TurnShown}
+use Rattle.helm_core.specs.Behaviors.{TurnSoFar, BhvSoFar, begun_at, has_fault, outcome_at, showing_of}
 use Rattle.helm_core.specs.Decisions.{decision_made, some_active}
 use Rattle.helm_core.specs.Lists.{list_at}
-use Rattle.helm_core.specs.Moments.{Moment, moment_at, moment_before}
+use Rattle.helm_core.specs.PastIterations.{PastIteration, past_iteration_at, past_iteration_before}
 use Rattle.helm_core.specs.Plans.{Plan}
 use Rattle.helm_core.specs.Posts.{allstop_by, allstop_of, are_declared_modes, changed, desired, desired_posts, desired_speed, flags_raised, helm_posts, lacks_decision, mentions_course, mentions_depth, mentions_speed, mode_post, number_pair, on_change, some_fault, state_text, state_word, text_pair}
 use Rattle.helm_core.specs.Ticks.{Seen, Tick, seen_at}
@@ -57,7 +57,7 @@ state_is_text : (parked : Bool) → IsTrue (is_text (state_word parked))
 state_is_text true = refl
 state_is_text false = refl
 
-allstop_is_text : (axes : List Axis) (parked : Bool) (showings : List Showing) → IsTrue (is_text (allstop_by axes parked showings))
+allstop_is_text : (axes : List Axis) (parked : Bool) (showings : List TurnShown) → IsTrue (is_text (allstop_by axes parked showings))
 allstop_is_text axes parked showings = by parked (some_fault showings) (not (some_active showings)) (lacks_decision axes showings)
   where
     by : (parked fault none lacks : Bool)
@@ -68,11 +68,11 @@ allstop_is_text axes parked showings = by parked (some_fault showings) (not (som
     by false false false true = refl
     by false false false false = refl
 
-mode_paired : (plan : Plan) (before : Option Moment) (now : Moment) → IsTrue (is_text now.seen.mode) → ArePairs 1 (mode_post plan before now)
+mode_paired : (plan : Plan) (before : Option PastIteration) (now : PastIteration) → IsTrue (is_text now.seen.mode) → ArePairs 1 (mode_post plan before now)
 mode_paired plan before now is = by (are_declared_modes plan.decls)
   where
-    by : (declared : Bool) → ArePairs 1 (cond declared (on_change (codes "MODE") (λ moment. moment.seen.mode) before now) [])
-    by true = changed_paired (codes "MODE") (option_map (λ (moment : Moment). moment.seen.mode) before) now.seen.mode refl is
+    by : (declared : Bool) → ArePairs 1 (cond declared (on_change (codes "MODE") (λ past_iteration. past_iteration.seen.mode) before now) [])
+    by true = changed_paired (codes "MODE") (option_map (λ (past_iteration : PastIteration). past_iteration.seen.mode) before) now.seen.mode refl is
     by false = none_paired 1
 
 -- what is decided on
@@ -88,7 +88,7 @@ speed_paired allstop mentioned decision millis = by (bytes_eq allstop (codes "cl
     by true = desired_paired (codes "DESIRED_SPEED") (codes "speed") mentioned decision refl millis
     by false = one_paired (number_pair (codes "DESIRED_SPEED") (pos 0)) (record { var = refl; value = zero_milli })
 
-all_desired : (axes : List Axis) (parked : Bool) (showings : List Showing) → is_domain axes ≡ true → ArePairs 3 (desired_posts axes parked showings)
+all_desired : (axes : List Axis) (parked : Bool) (showings : List TurnShown) → is_domain axes ≡ true → ArePairs 3 (desired_posts axes parked showings)
 all_desired axes parked showings lawful =
     let decision = decision_made axes showings in
     let millis = decided_millis axes showings lawful in
@@ -144,7 +144,7 @@ all_flags : (axes : List Axis) (seen : Seen) (fault : Bool) (ones : List BhvSoFa
     → ArePairs (32 * length ones) (flags_raised (map (showing_of seen fault) (map (begun_at axes seen) ones)))
 all_flags axes seen fault [] valid = none_paired 0
 all_flags axes seen fault (one ∷ ones) valid =
-    let begun : BegunTurn = begun_at axes seen one in
+    let begun : TurnSoFar = begun_at axes seen one in
     let outcome : Outcome = outcome_at seen fault begun in
     let first : ArePairs 32 (flags_at begun.standing.block.common outcome)
     = flags_paired begun.standing.block.common outcome (subst HasValidCommon (sym (begun_same axes seen one).1) valid.0) in
@@ -157,8 +157,8 @@ all_flags axes seen fault (one ∷ ones) valid =
 pub all_posts : (plan : Plan) (ticks : List Tick) (i : ℕ) → is_domain plan.axes ≡ true → Each HasValidCommon plan.blocks → length plan.blocks ≤ 64 → IsTrue (is_text (seen_at plan.decls ticks i).mode)
     → ArePairs (32 * 64 + 6) (helm_posts plan ticks i)
 all_posts plan ticks i lawful valid few mode =
-    let before = moment_before plan ticks i in
-    let now = moment_at plan ticks i in
+    let before = past_iteration_before plan ticks i in
+    let now = past_iteration_at plan ticks i in
     let seen = seen_at plan.decls ticks i in
     let ones = list_at plan ticks i in
     let flags = all_flags plan.axes seen (list_any has_fault (map (begun_at plan.axes seen) ones)) ones (blocks_hold HasValidCommon plan ticks i valid) in

@@ -18,7 +18,7 @@ use Rattle.bhv_file.specs.declared.spec.Spec.{Spec}
 use Rattle.bhv_file.specs.Validity.{IsValidSpec}
 use Rattle.helm_core.specs.declared.doer.Doer.{Doer}
 use Rattle.helm_core.specs.Doers.{IsDoerOf}
-use Rattle.bhv_kinds.specs.Turns.{KindTurn, params_at}
+use Rattle.bhv_kinds.specs.Changes.{KindChange, params_at}
 use Rattle.bhv_life.specs.Standing.{IsLifeOf}
 use Rattle.helm_core.specs.declared.behavior.Behavior.{Behavior}
 use Rattle.helm_core.specs.declared.iteration.How.{How}
@@ -26,11 +26,11 @@ use Rattle.helm_core.specs.declared.iteration.How.TheVariants.{Refused, Changed,
 use Rattle.helm_core.specs.declared.iteration.Update.{Update}
 use Rattle.helm_core.specs.declared.named.NamedPairs.{NamedPairs}
 use Rattle.helm_core.specs.Behaviors.{BhvSoFar, Birth}
-use Rattle.helm_core.specs.declared.outlook.Outlook.{Outlook}
-use Rattle.helm_core.specs.declared.turned.Turned.{Turned}
+use Rattle.helm_core.specs.declared.helm_view.HelmView.{HelmView}
+use Rattle.helm_core.specs.declared.turned.TurnsEnded.{TurnsEnded}
 use Rattle.helm_core.specs.Kept.{AreFewFit, AreFit, HasHeardAndTurned, HasTurned, IsHeardAndTurned}
 use Rattle.helm_core.specs.Plans.{is_template}
-use Rattle.helm_core.specs.Standings.{AreFew, HasSpawned, HelmCrew, HasAnswered, IsCrew, IsFitKept, IsKept, IsReady, IsSpawning, MaySpawn, MayStep, crew_of, is_called_in, is_kept_called}
+use Rattle.helm_core.specs.Standings.{AreFew, HasSpawned, BehaviorListState, HasAnswered, IsBehaviorList, IsFitKept, IsKept, IsReady, IsSpawning, MaySpawn, MayStep, behavior_list_of, is_called_in, is_kept_called}
 use Rattle.helm_core.specs.Templates.{Spawning, answered, are_good, changed_by, heard_at_place, heard_by, heard_known, heard_new, heard_said, heard_to, bears_name, is_made_of, made_from, may_make, none_spawned, said_by, spawned, with_said}
 use Rattle.helm_core.specs.Ticks.{pairs_mailed}
 use Rattle.helm_core.proofs.Listing.{room_left}
@@ -62,7 +62,7 @@ refused blocks clock template before kept all = record { ones = all; answer = re
 
 -- what is told of the doer that a behaviour has with the pairs of a letter: whether they are good
 abbrev pub TellsGood : List Axis → Doer → Option (List ℕ) → Bool → Type 0
-TellsGood axes doer pairs test = (spec : Spec) (turns : List KindTurn) → IsDoerOf spec turns doer → test ≡ are_good axes (params_at spec turns) pairs
+TellsGood axes doer pairs test = (spec : Spec) (changes : List KindChange) → IsDoerOf spec changes doer → test ≡ are_good axes (params_at spec changes) pairs
 
 -- a letter with a name that none of the list has
 module _ (axes : List Axis) (blocks : List Block) (clock at : ℕ) (template : Block) (before : Spawning) (said : NamedPairs) (kept : List Behavior) (all : AllZip (IsKept blocks clock) before.ones kept) where
@@ -123,7 +123,7 @@ module _ (axes : List Axis) (blocks : List Block) (clock : ℕ) (template : Bloc
   changed' = answered template before (slice_set before.ones place (changed_by axes said it)) Changed
 
   abbrev test : Bool
-  test = is_made_of template it && are_good axes (params_at it.block.spec it.turns) said.pairs
+  test = is_made_of template it && are_good axes (params_at it.block.spec it.changes) said.pairs
 
   there : (after : List Behavior) (how : How) (asked : Bool) → test ≡ asked → HasAnswered blocks clock template before (if asked then changed' else answered template before before.ones Refused) after how
       → HasAnswered blocks clock template before (heard_known axes template before said place (slice_get before.ones place)) after how
@@ -133,21 +133,21 @@ module _ (axes : List Axis) (blocks : List Block) (clock : ℕ) (template : Bloc
 
   pub of_another : (made : Bool) → TellsMaker blocks template one made → made ≡ false → HasAnswered blocks clock template before (heard_known axes template before said place (slice_get before.ones place)) kept Refused
   of_another made tells is =
-      there kept Refused false (not_first (is_made_of template it) (are_good axes (params_at it.block.spec it.turns) said.pairs) (sym (own made tells) ∙ is)) (refused blocks clock template before kept all)
+      there kept Refused false (not_first (is_made_of template it) (are_good axes (params_at it.block.spec it.changes) said.pairs) (sym (own made tells) ∙ is)) (refused blocks clock template before kept all)
 
   pub bad_change : (good : Bool) → TellsGood axes one.doer said.pairs good → good ≡ false → HasAnswered blocks clock template before (heard_known axes template before said place (slice_get before.ones place)) kept Refused
   bad_change good tells is =
-      there kept Refused false (not_second (is_made_of template it) (are_good axes (params_at it.block.spec it.turns) said.pairs) (sym (tells it.block.spec it.turns found.2.doer) ∙ is)) (refused blocks clock template before kept all)
+      there kept Refused false (not_second (is_made_of template it) (are_good axes (params_at it.block.spec it.changes) said.pairs) (sym (tells it.block.spec it.changes found.2.doer) ∙ is)) (refused blocks clock template before kept all)
 
   pub is_changed : (made good : Bool) (doer : Doer) → TellsMaker blocks template one made → made ≡ true → TellsGood axes one.doer said.pairs good → good ≡ true
-      → ((spec : Spec) (turns : List KindTurn) → IsDoerOf spec turns one.doer → IsDoerOf spec (with_said axes turns said.pairs) doer)
+      → ((spec : Spec) (changes : List KindChange) → IsDoerOf spec changes one.doer → IsDoerOf spec (with_said axes changes said.pairs) doer)
       → HasAnswered blocks clock template before (heard_known axes template before said place (slice_get before.ones place)) (slice_set kept place (record one { doer = doer })) Changed
   is_changed made good doer tells owns tells' fine after =
       there (slice_set kept place (record one { doer = doer })) Changed true
-      (both (is_made_of template it) (are_good axes (params_at it.block.spec it.turns) said.pairs) (sym (own made tells) ∙ owns) (sym (tells' it.block.spec it.turns found.2.doer) ∙ fine))
+      (both (is_made_of template it) (are_good axes (params_at it.block.spec it.changes) said.pairs) (sym (own made tells) ∙ owns) (sym (tells' it.block.spec it.changes found.2.doer) ∙ fine))
       (record {
         ones = set_in_both (IsKept blocks clock) before.ones kept place (changed_by axes said it) (record one { doer = doer }) all
-            (record { name = found.2.name; block = found.2.block; made = found.2.made; doer = after it.block.spec it.turns found.2.doer; life = found.2.life; late = found.2.late });
+            (record { name = found.2.name; block = found.2.block; made = found.2.made; doer = after it.block.spec it.changes found.2.doer; life = found.2.life; late = found.2.late });
         answer = refl;
       })
 
@@ -293,7 +293,7 @@ spawned_made axes blocks template name pairs kept one of room doer may =
     }
 
 pub spawned_changed : (axes : List Axis) (blocks : List Block) (kept : List Behavior) (place : ℕ) (one : Behavior) (doer : Doer) → slice_get kept place ≡ Some one
-    → ((spec : Spec) (turns : List KindTurn) → IsDoerOf spec turns one.doer → GoesOn axes spec turns doer) → MaySpawn blocks kept
+    → ((spec : Spec) (changes : List KindChange) → IsDoerOf spec changes one.doer → GoesOn axes spec changes doer) → MaySpawn blocks kept
     → HasSpawned axes blocks kept (slice_set kept place (record one { doer = doer }))
 spawned_changed axes blocks kept place one doer at on may =
     let other : Behavior = record one { doer = doer } in
@@ -308,30 +308,30 @@ spawned_changed axes blocks kept place one doer at on may =
           All-set (IsFitKept axes blocks) kept place other (record { within = was.within; ready = ready_on axes one.doer doer on was.ready }) fit;
     }
 
--- what a crew gives: letters to templates may come
+-- what a list gives: letters to templates may come
 valid_of : (axes : List Axis) (blocks : List Block) → All (MayStep axes) blocks → All (λ (block : Block). IsValidSpec block.spec) blocks
 valid_of axes blocks may = All-weaker (MayStep axes) (λ (block : Block). IsValidSpec block.spec) (λ block steps. steps.valid) blocks may
 
 within_of : (axes : List Axis) (blocks : List Block) (kept : List Behavior) → All (IsFitKept axes blocks) kept → All (λ (one : Behavior). one.block < length blocks) kept
 within_of axes blocks kept fit = All-weaker (IsFitKept axes blocks) (λ (one : Behavior). one.block < length blocks) (λ one is. is.within) kept fit
 
-pub crew_may_spawn : (crew : HelmCrew) → IsCrew crew → MaySpawn crew.blocks crew.kept
-crew_may_spawn crew is = record { few = is.few; within = within_of crew.axes crew.blocks crew.kept is.fit; valid = valid_of crew.axes crew.blocks is.may_step }
+pub list_may_spawn : (behavior_list : BehaviorListState) → IsBehaviorList behavior_list → MaySpawn behavior_list.blocks behavior_list.kept
+list_may_spawn behavior_list is = record { few = is.few; within = within_of behavior_list.axes behavior_list.blocks behavior_list.kept is.fit; valid = valid_of behavior_list.axes behavior_list.blocks is.may_step }
 
--- a crew's turns where no letter is to a template
-pub uncalled_turned : (crew : HelmCrew) (stamp : ℕ) (letters : List Pair) (now : Outlook) (answers : List Update) (turned : Turned) → list_any (is_called_in letters) crew.blocks ≡ false → answers ≡ []
-    → HasTurned crew stamp letters now turned → HasHeardAndTurned crew stamp letters now answers turned
-uncalled_turned crew stamp letters now answers turned none empty turns clock at seen ones later sees stands =
-    subst (λ spawning. IsHeardAndTurned crew.axes crew.blocks seen spawning answers turned) (sym (none_called crew.axes crew.blocks at letters ones none))
-    (record { told = empty; turns = turns clock seen ones later sees stands })
+-- a list's turns where no letter is to a template
+pub uncalled_turned : (behavior_list : BehaviorListState) (stamp : ℕ) (letters : List Pair) (now : HelmView) (answers : List Update) (turned : TurnsEnded) → list_any (is_called_in letters) behavior_list.blocks ≡ false → answers ≡ []
+    → HasTurned behavior_list stamp letters now turned → HasHeardAndTurned behavior_list stamp letters now answers turned
+uncalled_turned behavior_list stamp letters now answers turned none empty ended clock at seen ones later sees stands =
+    subst (λ spawning. IsHeardAndTurned behavior_list.axes behavior_list.blocks seen spawning answers turned) (sym (none_called behavior_list.axes behavior_list.blocks at letters ones none))
+    (record { told = empty; ended = ended clock seen ones later sees stands })
 
 -- and where some are
-pub called_turned : (crew : HelmCrew) (stamp : ℕ) (letters : List Pair) (now : Outlook) (answers : List Update) (kept : List Behavior) (turned : Turned)
-    → ((clock at : ℕ) (ones : List BhvSoFar) → IsSpawning crew.blocks clock (none_spawned ones) crew.kept [] → IsSpawning crew.blocks clock (spawned crew.axes crew.blocks at letters ones) kept answers)
-    → HasTurned (crew_of crew.axes crew.blocks kept) stamp letters now turned → HasHeardAndTurned crew stamp letters now answers turned
-called_turned crew stamp letters now answers kept turned spawns turns clock at seen ones later sees stands =
+pub called_turned : (behavior_list : BehaviorListState) (stamp : ℕ) (letters : List Pair) (now : HelmView) (answers : List Update) (kept : List Behavior) (turned : TurnsEnded)
+    → ((clock at : ℕ) (ones : List BhvSoFar) → IsSpawning behavior_list.blocks clock (none_spawned ones) behavior_list.kept [] → IsSpawning behavior_list.blocks clock (spawned behavior_list.axes behavior_list.blocks at letters ones) kept answers)
+    → HasTurned (behavior_list_of behavior_list.axes behavior_list.blocks kept) stamp letters now turned → HasHeardAndTurned behavior_list stamp letters now answers turned
+called_turned behavior_list stamp letters now answers kept turned spawns ended clock at seen ones later sees stands =
     let spawning = spawns clock at ones (record { ones = stands; answers = refl }) in
-    record { told = spawning.answers; turns = turns clock seen (spawned crew.axes crew.blocks at letters ones).ones later sees spawning.ones }
+    record { told = spawning.answers; ended = ended clock seen (spawned behavior_list.axes behavior_list.blocks at letters ones).ones later sees spawning.ones }
 
-pub crew_few_fit : (crew : HelmCrew) (kept : List Behavior) (turned : Turned) → AreFew crew.blocks (length kept) → AreFit crew.axes crew.blocks (length kept) turned → AreFewFit crew.axes crew.blocks turned
-crew_few_fit crew kept turned few fit = record { count = length kept; few = few; fit = fit }
+pub list_few_fit : (behavior_list : BehaviorListState) (kept : List Behavior) (turned : TurnsEnded) → AreFew behavior_list.blocks (length kept) → AreFit behavior_list.axes behavior_list.blocks (length kept) turned → AreFewFit behavior_list.axes behavior_list.blocks turned
+list_few_fit behavior_list kept turned few fit = record { count = length kept; few = few; fit = fit }

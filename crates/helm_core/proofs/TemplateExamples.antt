@@ -6,7 +6,7 @@ use Rattle.moos_db.specs.declared.mail.Letter.{Letter}
 use Rattle.ivp_domain.specs.declared.axis.Axis.{Axis}
 use Rattle.bhv_file.specs.declared.file.Block.{Block}
 use Rattle.bhv_file.specs.declared.spec.Shape.TheVariants.{Timer}
-use Rattle.bhv_kinds.specs.Turns.{params_at}
+use Rattle.bhv_kinds.specs.Changes.{params_at}
 use Rattle.bhv_life.specs.declared.outcome.BhvState.{BhvState}
 use Rattle.bhv_life.specs.declared.outcome.BhvState.TheVariants.{Idle, Running, Completed}
 use Rattle.helm_core.specs.declared.iteration.BhvNow.{BhvNow}
@@ -71,7 +71,7 @@ row_end = refl
 
 -- The weights that it has.
 abbrev weights : List BhvSoFar → List ℕ
-weights ones = map (λ one. (params_at one.block.spec one.turns).weight) ones
+weights ones = map (λ one. (params_at one.block.spec one.changes).weight) ones
 
 row_weights : map (λ i. weights (list_at plan row i)) (0 ∷ 1 ∷ 2 ∷ 3 ∷ []) ≡ (5000 ∷ []) ∷ (5000 ∷ []) ∷ (5000 ∷ []) ∷ [] ∷ []
 row_weights = refl

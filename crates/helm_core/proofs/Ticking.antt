@@ -16,20 +16,20 @@ use Rattle.helm_core.specs.declared.allstop.Allstop.{Allstop}
 use Rattle.helm_core.specs.declared.helm.Helm.{Helm}
 use Rattle.helm_core.specs.declared.iteration.Iteration.{Iteration}
 use Rattle.helm_core.specs.declared.iteration.Update.{Update}
-use Rattle.helm_core.specs.declared.outlook.Outlook.{Outlook}
-use Rattle.helm_core.specs.declared.showing.Showing.{Showing}
-use Rattle.helm_core.specs.declared.turned.Turned.{Turned}
+use Rattle.helm_core.specs.declared.helm_view.HelmView.{HelmView}
+use Rattle.helm_core.specs.declared.showing.TurnShown.{TurnShown}
+use Rattle.helm_core.specs.declared.turned.TurnsEnded.{TurnsEnded}
 use Rattle.helm_core.specs.Plans.{Plan}
 use Rattle.helm_core.specs.Behaviors.{BhvSoFar, all_after, all_begun}
 use Rattle.helm_core.specs.Lists.{list_before, spawned_at, stays}
 use Rattle.helm_core.specs.Templates.{Spawning, spawned}
 use Rattle.helm_core.specs.Decisions.{decision_made}
-use Rattle.helm_core.specs.Standings.{IsCrewOf, IsKept, Sees}
+use Rattle.helm_core.specs.Standings.{IsBehaviorListOf, IsKept, Sees}
 use Rattle.helm_core.specs.Ticks.{Seen, seen_at, Tick, heard_at, heard_in_all, is_parked, learnt_at, pairs_mailed, tick_of, tick_stamp}
-use Rattle.helm_core.specs.Moments.{Moment, moment_at, moment_before}
+use Rattle.helm_core.specs.PastIterations.{PastIteration, past_iteration_at, past_iteration_before}
 use Rattle.helm_core.specs.Posts.{allstop_by, allstop_of, are_declared_modes, changed, desired_posts, flags_raised, helm_posts, posts_made, state_text, state_word}
 use Rattle.helm_core.specs.Iterations.{all_faults, all_states, all_updates, iteration_at}
-use Rattle.helm_core.specs.Helms.{allstop_text, clock_of, plan_of, HasLearnt, IsOutlook, IsTicked, StandsFor}
+use Rattle.helm_core.specs.Helms.{allstop_text, clock_of, plan_of, HasLearnt, IsHelmView, IsTicked, StandsFor}
 use Rattle.helm_core.specs.Kept.{HasHeardAndTurned, IsHeardAndTurned, helm_after, iteration_by, posts_by, said_before}
 use Rattle.helm_core.proofs.Growing.{before_same, list_same}
 
@@ -57,16 +57,16 @@ mail_last : (ticks : List Tick) (stamp : ℕ) (mail : List Letter) → heard_at 
 mail_last [] stamp mail = refl
 mail_last (first ∷ ticks) stamp mail = mail_last ticks stamp mail
 
--- a moment at which just these letters were learnt
-record HasHeard (plan : Plan) (learnt : List Pair) (moment : Moment) : Type 0 where
-  parked : moment.seen.parked ≡ is_parked learnt
-  mode : moment.seen.mode ≡ mode_text plan.decls (latest_of learnt)
+-- an iteration at which just these letters were learnt
+record HasHeard (plan : Plan) (learnt : List Pair) (past_iteration : PastIteration) : Type 0 where
+  parked : past_iteration.seen.parked ≡ is_parked learnt
+  mode : past_iteration.seen.mode ≡ mode_text plan.decls (latest_of learnt)
 
-heard_by : (plan : Plan) (ticks : List Tick) (i : ℕ) (learnt : List Pair) → learnt_at ticks i ≡ learnt → HasHeard plan learnt (moment_at plan ticks i)
+heard_by : (plan : Plan) (ticks : List Tick) (i : ℕ) (learnt : List Pair) → learnt_at ticks i ≡ learnt → HasHeard plan learnt (past_iteration_at plan ticks i)
 heard_by plan ticks i learnt is = record { parked = ap is_parked is; mode = ap (λ all. mode_text plan.decls (latest_of all)) is }
 
 now_heard : (plan : Plan) (ticks : List Tick) (stamp : ℕ) (mail : List Letter)
-    → HasHeard plan (heard_in_all (with_tick ticks stamp mail)) (moment_at plan (with_tick ticks stamp mail) (length ticks))
+    → HasHeard plan (heard_in_all (with_tick ticks stamp mail)) (past_iteration_at plan (with_tick ticks stamp mail) (length ticks))
 now_heard plan ticks stamp mail =
     heard_by plan (with_tick ticks stamp mail) (length ticks) _ (ap heard_in_all (take_whole ticks (tick_of stamp mail)))
 
@@ -79,12 +79,12 @@ said_some None text other some = absurd (let e : None ≡ Some other = some in c
 said_some (Some one) text other some = refl
 
 -- what a helm says of the iteration before
-record Recalls (helm : Helm) (before : Option Moment) : Type 0 where
-  state : option_map state_text before ≡ said_before helm (state_word helm.outlook.parked)
-  mode : option_map (λ moment. moment.seen.mode) before ≡ said_before helm helm.outlook.mode
+record Recalls (helm : Helm) (before : Option PastIteration) : Type 0 where
+  state : option_map state_text before ≡ said_before helm (state_word helm.helm_view.parked)
+  mode : option_map (λ past_iteration. past_iteration.seen.mode) before ≡ said_before helm helm.helm_view.mode
   allstop : option_map (allstop_of (plan_of helm)) before ≡ option_map allstop_text helm.allstop
 
-recalled : (helm : Helm) (ticks : List Tick) → StandsFor helm ticks → Recalls helm (moment_before (plan_of helm) ticks (length ticks))
+recalled : (helm : Helm) (ticks : List Tick) → StandsFor helm ticks → Recalls helm (past_iteration_before (plan_of helm) ticks (length ticks))
 recalled helm [] stands = record {
   state = said_none helm.allstop _ stands.allstop;
   mode = said_none helm.allstop _ stands.allstop;
@@ -92,32 +92,32 @@ recalled helm [] stands = record {
 }
 recalled helm (tick ∷ ticks) stands =
     let whole : learnt_at (tick ∷ ticks) (length ticks) ≡ heard_in_all (tick ∷ ticks) = ap heard_in_all (take_all (length (tick ∷ ticks)) (tick ∷ ticks) (omega arith)) in
-    let heard : HasHeard (plan_of helm) (heard_in_all (tick ∷ ticks)) (moment_at (plan_of helm) (tick ∷ ticks) (length ticks))
+    let heard : HasHeard (plan_of helm) (heard_in_all (tick ∷ ticks)) (past_iteration_at (plan_of helm) (tick ∷ ticks) (length ticks))
     = heard_by (plan_of helm) (tick ∷ ticks) (length ticks) _ whole in
     record {
-      state = ap (λ parked. Some (state_word parked)) (heard.parked ∙ sym stands.outlook.parked) ∙ said_some helm.allstop _ _ stands.allstop;
-      mode = ap Some (heard.mode ∙ sym stands.outlook.mode) ∙ said_some helm.allstop _ _ stands.allstop;
+      state = ap (λ parked. Some (state_word parked)) (heard.parked ∙ sym stands.helm_view.parked) ∙ said_some helm.allstop _ _ stands.allstop;
+      mode = ap Some (heard.mode ∙ sym stands.helm_view.mode) ∙ said_some helm.allstop _ _ stands.allstop;
       allstop = sym stands.allstop;
     }
 
-abbrev put_together : List Decl → List Axis → Option (List ℕ) → Option (List ℕ) → Option (List ℕ) → Bool → List ℕ → List Showing → List Pair
+abbrev put_together : List Decl → List Axis → Option (List ℕ) → Option (List ℕ) → Option (List ℕ) → Bool → List ℕ → List TurnShown → List Pair
 put_together decls axes state mode allstop parked mode' showings =
     changed (codes "IVPHELM_STATE") state (state_word parked) ++ (if are_declared_modes decls then changed (codes "MODE") mode mode' else []) ++ flags_raised showings
     ++ desired_posts axes parked showings ++ changed (codes "IVPHELM_ALLSTOP") allstop (allstop_by axes parked showings)
 
-same_posts : (helm : Helm) (now : Outlook) (showings : List Showing) (before : Option Moment) (moment : Moment) → Recalls helm before
-    → moment.seen.parked ≡ now.parked → moment.seen.mode ≡ now.mode → moment.showings ≡ showings → posts_by helm now showings ≡ posts_made (plan_of helm) before moment
-same_posts helm now showings before moment recalls parked mode shown =
-    let together = put_together helm.modes helm.crew.axes in
+same_posts : (helm : Helm) (now : HelmView) (showings : List TurnShown) (before : Option PastIteration) (past_iteration : PastIteration) → Recalls helm before
+    → past_iteration.seen.parked ≡ now.parked → past_iteration.seen.mode ≡ now.mode → past_iteration.showings ≡ showings → posts_by helm now showings ≡ posts_made (plan_of helm) before past_iteration
+same_posts helm now showings before past_iteration recalls parked mode shown =
+    let together = put_together helm.modes helm.behavior_list.axes in
     sym
-    (ap (λ said. together said (option_map (λ (m : Moment). m.seen.mode) before) (option_map (allstop_of (plan_of helm)) before) moment.seen.parked moment.seen.mode moment.showings) recalls.state
-    ∙ ap (λ said. together (said_before helm (state_word helm.outlook.parked)) said (option_map (allstop_of (plan_of helm)) before) moment.seen.parked moment.seen.mode moment.showings) recalls.mode
-    ∙ ap (λ said. together (said_before helm (state_word helm.outlook.parked)) (said_before helm helm.outlook.mode) said moment.seen.parked moment.seen.mode moment.showings) recalls.allstop
-    ∙ ap (λ one. together (said_before helm (state_word helm.outlook.parked)) (said_before helm helm.outlook.mode) (option_map allstop_text helm.allstop) one moment.seen.mode moment.showings) parked
-    ∙ ap (λ one. together (said_before helm (state_word helm.outlook.parked)) (said_before helm helm.outlook.mode) (option_map allstop_text helm.allstop) now.parked one moment.showings) mode
-    ∙ ap (together (said_before helm (state_word helm.outlook.parked)) (said_before helm helm.outlook.mode) (option_map allstop_text helm.allstop) now.parked now.mode) shown)
+    (ap (λ said. together said (option_map (λ (m : PastIteration). m.seen.mode) before) (option_map (allstop_of (plan_of helm)) before) past_iteration.seen.parked past_iteration.seen.mode past_iteration.showings) recalls.state
+    ∙ ap (λ said. together (said_before helm (state_word helm.helm_view.parked)) said (option_map (allstop_of (plan_of helm)) before) past_iteration.seen.parked past_iteration.seen.mode past_iteration.showings) recalls.mode
+    ∙ ap (λ said. together (said_before helm (state_word helm.helm_view.parked)) (said_before helm helm.helm_view.mode) said past_iteration.seen.parked past_iteration.seen.mode past_iteration.showings) recalls.allstop
+    ∙ ap (λ one. together (said_before helm (state_word helm.helm_view.parked)) (said_before helm helm.helm_view.mode) (option_map allstop_text helm.allstop) one past_iteration.seen.mode past_iteration.showings) parked
+    ∙ ap (λ one. together (said_before helm (state_word helm.helm_view.parked)) (said_before helm helm.helm_view.mode) (option_map allstop_text helm.allstop) now.parked one past_iteration.showings) mode
+    ∙ ap (together (said_before helm (state_word helm.helm_view.parked)) (said_before helm helm.helm_view.mode) (option_map allstop_text helm.allstop) now.parked now.mode) shown)
 
-abbrev iteration_with : List Axis → List Block → ℕ → Bool → List ℕ → List Update → List Showing → List Pair → Iteration
+abbrev iteration_with : List Axis → List Block → ℕ → Bool → List ℕ → List Update → List TurnShown → List Pair → Iteration
 iteration_with axes blocks stamp parked mode answers showings posts = record {
   stamp = stamp;
   parked = parked;
@@ -129,12 +129,12 @@ iteration_with axes blocks stamp parked mode answers showings posts = record {
   posts = posts;
 }
 
-module _ (helm : Helm) (stamp : ℕ) (mail : List Letter) (now : Outlook) (answers : List Update) (turned : Turned) (allstop : Allstop) (learnt : HasLearnt helm.modes mail helm.outlook now) (turns : HasHeardAndTurned helm.crew stamp (pairs_mailed mail) now answers turned) (stops : allstop_text allstop ≡ allstop_by helm.crew.axes now.parked turned.showings.items) (later : clock_of helm ≤ stamp) (ticks : List Tick) (stands : StandsFor helm ticks) where
+module _ (helm : Helm) (stamp : ℕ) (mail : List Letter) (now : HelmView) (answers : List Update) (turned : TurnsEnded) (allstop : Allstop) (learnt : HasLearnt helm.modes mail helm.helm_view now) (ended : HasHeardAndTurned helm.behavior_list stamp (pairs_mailed mail) now answers turned) (stops : allstop_text allstop ≡ allstop_by helm.behavior_list.axes now.parked turned.showings.items) (later : clock_of helm ≤ stamp) (ticks : List Tick) (stands : StandsFor helm ticks) where
   abbrev ticks' : List Tick
   ticks' = with_tick ticks stamp mail
 
-  abbrev moment' : Moment
-  moment' = moment_at (plan_of helm) ticks' (length ticks)
+  abbrev past_iteration' : PastIteration
+  past_iteration' = past_iteration_at (plan_of helm) ticks' (length ticks)
 
   abbrev seen' : Seen
   seen' = seen_at helm.modes ticks' (length ticks)
@@ -145,13 +145,13 @@ module _ (helm : Helm) (stamp : ℕ) (mail : List Letter) (now : Outlook) (answe
   abbrev spawning' : Spawning
   spawning' = spawned_at (plan_of helm) ticks' (length ticks)
 
-  seen : IsOutlook helm.modes (heard_in_all ticks') now
-  seen = subst (λ all. IsOutlook helm.modes all now) (sym (heard_more ticks stamp mail)) (learnt (heard_in_all ticks) stands.outlook)
+  seen : IsHelmView helm.modes (heard_in_all ticks') now
+  seen = subst (λ all. IsHelmView helm.modes all now) (sym (heard_more ticks stamp mail)) (learnt (heard_in_all ticks) stands.helm_view)
 
-  parked' : moment'.seen.parked ≡ now.parked
+  parked' : past_iteration'.seen.parked ≡ now.parked
   parked' = (now_heard (plan_of helm) ticks stamp mail).parked ∙ sym seen.parked
 
-  mode' : moment'.seen.mode ≡ now.mode
+  mode' : past_iteration'.seen.mode ≡ now.mode
   mode' = (now_heard (plan_of helm) ticks stamp mail).mode ∙ sym seen.mode
 
   known' : seen'.known ≡ knowledge_of now.info
@@ -160,55 +160,55 @@ module _ (helm : Helm) (stamp : ℕ) (mail : List Letter) (now : Outlook) (answe
   sees : Sees seen' stamp (pairs_mailed mail) now
   sees = record { when = stamp_last ticks stamp mail; heard = mail_last ticks stamp mail; parked = parked'; known = known'; mode = mode' }
 
-  crew' : IsCrewOf (clock_of helm) ones helm.crew
-  crew' =
-      subst (λ all. IsCrewOf (clock_of helm) all helm.crew) (sym (list_same (plan_of helm) ticks (tick_of stamp mail ∷ []) (length ticks) (omega arith)))
-      stands.crew
+  list' : IsBehaviorListOf (clock_of helm) ones helm.behavior_list
+  list' =
+      subst (λ all. IsBehaviorListOf (clock_of helm) all helm.behavior_list) (sym (list_same (plan_of helm) ticks (tick_of stamp mail ∷ []) (length ticks) (omega arith)))
+      stands.behavior_list
 
-  after : IsHeardAndTurned helm.crew.axes helm.crew.blocks seen' spawning' answers turned
+  after : IsHeardAndTurned helm.behavior_list.axes helm.behavior_list.blocks seen' spawning' answers turned
   after =
-      subst (λ letters. IsHeardAndTurned helm.crew.axes helm.crew.blocks seen' (spawned helm.crew.axes helm.crew.blocks (length ticks) letters ones) answers turned) (sym (mail_last ticks stamp mail))
-      (turns (clock_of helm) (length ticks) seen' ones later sees crew')
+      subst (λ letters. IsHeardAndTurned helm.behavior_list.axes helm.behavior_list.blocks seen' (spawned helm.behavior_list.axes helm.behavior_list.blocks (length ticks) letters ones) answers turned) (sym (mail_last ticks stamp mail))
+      (ended (clock_of helm) (length ticks) seen' ones later sees list')
 
-  kept_after : AllZip (IsKept helm.crew.blocks stamp) (list_before (plan_of helm) ticks' (length ticks')) turned.kept.items
+  kept_after : AllZip (IsKept helm.behavior_list.blocks stamp) (list_before (plan_of helm) ticks' (length ticks')) turned.kept.items
   kept_after =
-      subst (λ n. AllZip (IsKept helm.crew.blocks stamp) (list_before (plan_of helm) ticks' n) turned.kept.items) (sym (length_more ticks (tick_of stamp mail)))
-      (subst (λ clock. AllZip (IsKept helm.crew.blocks clock) (filter stays (all_after seen' (all_begun helm.crew.axes seen' spawning'.ones))) turned.kept.items) (stamp_last ticks stamp mail) after.turns.kept)
+      subst (λ n. AllZip (IsKept helm.behavior_list.blocks stamp) (list_before (plan_of helm) ticks' n) turned.kept.items) (sym (length_more ticks (tick_of stamp mail)))
+      (subst (λ clock. AllZip (IsKept helm.behavior_list.blocks clock) (filter stays (all_after seen' (all_begun helm.behavior_list.axes seen' spawning'.ones))) turned.kept.items) (stamp_last ticks stamp mail) after.ended.kept)
 
   stands_after : StandsFor (helm_after helm stamp now turned.kept.items allstop) ticks'
   stands_after = record {
     clock = sym (fold-append (λ before (tick : Tick). tick.stamp) 0 ticks (tick_of stamp mail ∷ []));
-    outlook = seen;
-    crew = kept_after;
+    helm_view = seen;
+    behavior_list = kept_after;
     allstop =
-        sym (ap (option_map (allstop_of (plan_of helm))) (ap (moment_before (plan_of helm) ticks') (length_more ticks (tick_of stamp mail)))
-        ∙ ap (λ one. Some (allstop_by helm.crew.axes one moment'.showings)) parked'
-        ∙ ap (λ one. Some (allstop_by helm.crew.axes now.parked one)) (sym after.turns.showings)
+        sym (ap (option_map (allstop_of (plan_of helm))) (ap (past_iteration_before (plan_of helm) ticks') (length_more ticks (tick_of stamp mail)))
+        ∙ ap (λ one. Some (allstop_by helm.behavior_list.axes one past_iteration'.showings)) parked'
+        ∙ ap (λ one. Some (allstop_by helm.behavior_list.axes now.parked one)) (sym after.ended.showings)
         ∙ ap Some (sym stops));
   }
 
   iterates : iteration_by helm stamp now answers turned.showings.items ≡ iteration_at (plan_of helm) ticks' (length ticks)
   iterates =
-      let recalls : Recalls helm (moment_before (plan_of helm) ticks' (length ticks))
+      let recalls : Recalls helm (past_iteration_before (plan_of helm) ticks' (length ticks))
       = subst (Recalls helm) (sym (before_same (plan_of helm) ticks (tick_of stamp mail ∷ []) (length ticks) (omega arith))) (recalled helm ticks stands) in
-      let made = iteration_with helm.crew.axes helm.crew.blocks in
+      let made = iteration_with helm.behavior_list.axes helm.behavior_list.blocks in
       let posts = helm_posts (plan_of helm) ticks' (length ticks) in
       ap (made stamp now.parked now.mode answers turned.showings.items)
-      (same_posts helm now turned.showings.items (moment_before (plan_of helm) ticks' (length ticks)) moment' recalls parked' mode' (sym after.turns.showings))
-      ∙ sym (ap (λ one. made one moment'.seen.parked moment'.seen.mode moment'.answers moment'.showings posts) (stamp_last ticks stamp mail)
-      ∙ ap (λ one. made stamp one moment'.seen.mode moment'.answers moment'.showings posts) parked'
-      ∙ ap (λ one. made stamp now.parked one moment'.answers moment'.showings posts) mode'
-      ∙ ap (λ one. made stamp now.parked now.mode one moment'.showings posts) (sym after.told)
-      ∙ ap (λ one. made stamp now.parked now.mode answers one posts) (sym after.turns.showings))
+      (same_posts helm now turned.showings.items (past_iteration_before (plan_of helm) ticks' (length ticks)) past_iteration' recalls parked' mode' (sym after.ended.showings))
+      ∙ sym (ap (λ one. made one past_iteration'.seen.parked past_iteration'.seen.mode past_iteration'.answers past_iteration'.showings posts) (stamp_last ticks stamp mail)
+      ∙ ap (λ one. made stamp one past_iteration'.seen.mode past_iteration'.answers past_iteration'.showings posts) parked'
+      ∙ ap (λ one. made stamp now.parked one past_iteration'.answers past_iteration'.showings posts) mode'
+      ∙ ap (λ one. made stamp now.parked now.mode one past_iteration'.showings posts) (sym after.told)
+      ∙ ap (λ one. made stamp now.parked now.mode answers one posts) (sym after.ended.showings))
 
-pub ticked : (helm : Helm) (stamp : ℕ) (mail : List Letter) (now : Outlook) (answers : List Update) (turned : Turned) (allstop : Allstop) → HasLearnt helm.modes mail helm.outlook now
-    → HasHeardAndTurned helm.crew stamp (pairs_mailed mail) now answers turned → allstop_text allstop ≡ allstop_by helm.crew.axes now.parked turned.showings.items → clock_of helm ≤ stamp
+pub ticked : (helm : Helm) (stamp : ℕ) (mail : List Letter) (now : HelmView) (answers : List Update) (turned : TurnsEnded) (allstop : Allstop) → HasLearnt helm.modes mail helm.helm_view now
+    → HasHeardAndTurned helm.behavior_list stamp (pairs_mailed mail) now answers turned → allstop_text allstop ≡ allstop_by helm.behavior_list.axes now.parked turned.showings.items → clock_of helm ≤ stamp
     → IsTicked helm (helm_after helm stamp now turned.kept.items allstop) stamp mail (iteration_by helm stamp now answers turned.showings.items)
-ticked helm stamp mail now answers turned allstop learnt turns stops later = record {
+ticked helm stamp mail now answers turned allstop learnt ended stops later = record {
   plan = refl;
   clock = refl;
-  stands = stands_after helm stamp mail now answers turned allstop learnt turns stops later;
-  is = iterates helm stamp mail now answers turned allstop learnt turns stops later;
+  stands = stands_after helm stamp mail now answers turned allstop learnt ended stops later;
+  is = iterates helm stamp mail now answers turned allstop learnt ended stops later;
 }
 
 abbrev plan_by : List Axis → List Pair → List Decl → List Block → Plan

@@ -20,14 +20,14 @@ use Rattle.bhv_file.specs.Validity.{AreBlocks, AreDecls, IsValidFile}
 use Rattle.mission_reader.specs.declared.mission.Mission.{Mission}
 use Rattle.mission_reader.specs.Validity.{HaveAxisNames, IsValidMission}
 use Rattle.mode_tree.proofs.Worded.{mode_is_text}
-use Rattle.helm_core.specs.declared.showing.Showing.{Showing}
+use Rattle.helm_core.specs.declared.showing.TurnShown.{TurnShown}
 use Rattle.helm_core.specs.Behaviors.{all_begun, has_fault}
 use Rattle.helm_core.specs.Lists.{list_at, showings_at}
 use Rattle.ivp_cert.specs.Certificates.{best_decision}
 use Rattle.helm_core.specs.Decisions.{active_problem, decision_made, some_active}
 use Rattle.helm_core.specs.Iterations.{iteration_at}
 use Rattle.helm_core.specs.Plans.{always_read, block_names, decl_names, names_read, plan_made, reg_wanted, with_wanted}
-use Rattle.helm_core.specs.Moments.{moment_at, moment_before}
+use Rattle.helm_core.specs.PastIterations.{past_iteration_at, past_iteration_before}
 use Rattle.helm_core.specs.Ticks.{Tick, learnt_at, seen_at}
 use Rattle.helm_core.specs.WellFormed.{IsWellFormed, IsWellFormedPlan}
 use Rattle.helm_core.proofs.Listing.{IsNamed, names_hold}
@@ -96,7 +96,7 @@ all_regs [] all = tt
 all_regs (name ∷ names) all = (record { var = name_pattern name all.0; source = refl; interval = omega arith }, all_regs names all.1)
 
 -- the axes that are decided over are those of the domain
-named_axes : (axes : List Axis) (showings : List Showing) → HaveAxisNames axes → IfSome (decision_made axes showings) (λ decision. HaveAxisNames decision.problem.axes)
+named_axes : (axes : List Axis) (showings : List TurnShown) → HaveAxisNames axes → IfSome (decision_made axes showings) (λ decision. HaveAxisNames decision.problem.axes)
 named_axes axes showings named = by (some_active showings)
   where
     by : (active : Bool) → IfSome (cond active (Some (best_decision (active_problem axes showings))) None) (λ (decision : Decision). HaveAxisNames decision.problem.axes)
@@ -114,7 +114,7 @@ iterations_formed mission file valid read ticks i =
     let names = each_weaker HasValidCommon (λ block. IsNamed block.common.name) (λ block valid. valid.name) file.blocks blocks in
     let named = showings_named mission.domain seen (list_any has_fault (all_begun mission.domain seen ones)) ones (names_hold plan ticks i names) in
     record {
-      names = all_told plan (moment_before plan ticks i) (moment_at plan ticks i) (answers_named plan ticks i names) named;
+      names = all_told plan (past_iteration_before plan ticks i) (past_iteration_at plan ticks i) (answers_named plan ticks i names) named;
       posts = (omega (arith, posts.few), All-from_recursion IsPair _ posts.all);
       mode = mode;
       axes = named_axes mission.domain (showings_at (plan_made mission file) ticks i) valid.axes;

@@ -18,10 +18,10 @@ use Rattle.ivp_problem.proofs.KeyOrder.{best_most, best_point}
 use Rattle.bhv_file.specs.Params.{has_axes}
 use Rattle.bhv_file.specs.Serving.{suits}
 use Rattle.bhv_kinds.specs.Utilities.{Utility, worth_at}
-use Rattle.bhv_kinds.specs.Turns.{params_at, step_of}
+use Rattle.bhv_kinds.specs.Changes.{params_at, step_of}
 use Rattle.bhv_kinds.specs.Worths.{IsWorth, StepsAreWorth}
 use Rattle.bhv_life.specs.Lives.{is_fresh, is_stepped}
-use Rattle.helm_core.specs.Behaviors.{BegunTurn, BhvSoFar, Judged, all_begun, begun_at, begun_by_step, beginning_at, has_fault, judged_at, past_so_far, showing_of, weight_now}
+use Rattle.helm_core.specs.Behaviors.{TurnSoFar, BhvSoFar, Judged, all_begun, begun_at, begun_by_step, beginning_at, has_fault, judged_at, past_so_far, showing_of, weight_now}
 use Rattle.ivp_cert.specs.Certificates.{best_decision}
 use Rattle.helm_core.specs.Decisions.{active_problem, active_term, decision_made, some_active, term_of}
 use Rattle.helm_core.specs.Lists.{list_at}
@@ -35,10 +35,10 @@ use Rattle.helm_core.proofs.Turning.{all_may_step}
 -- what a turn's function is worth at each point, and its weight
 stepped_worth : StepsAreWorth → (axes : List Axis) (seen : Seen) (one : BhvSoFar) (judged : Judged) (stepped : Bool) → is_domain axes ≡ true → MayStep axes one.block
     → IsWorth axes (wanted_by_step axes seen one judged stepped) (begun_by_step axes seen one judged stepped).out.func
-stepped_worth law axes seen one judged true lawful may = law one.block.spec judged.turns (step_of axes seen.known seen.stamp (is_fresh (past_so_far one))) may.valid lawful (and_parts (has_axes axes one.block.spec.shape) (suits axes one.block.spec.shape) may.served).0
+stepped_worth law axes seen one judged true lawful may = law one.block.spec judged.changes (step_of axes seen.known seen.stamp (is_fresh (past_so_far one))) may.valid lawful (and_parts (has_axes axes one.block.spec.shape) (suits axes one.block.spec.shape) may.served).0
 stepped_worth law axes seen one judged false lawful may = tt
 
-weight_kept : (axes : List Axis) (seen : Seen) (one : BhvSoFar) (judged : Judged) (stepped : Bool) → weight_now (begun_by_step axes seen one judged stepped) ≡ (params_at one.block.spec judged.turns).weight
+weight_kept : (axes : List Axis) (seen : Seen) (one : BhvSoFar) (judged : Judged) (stepped : Bool) → weight_now (begun_by_step axes seen one judged stepped) ≡ (params_at one.block.spec judged.changes).weight
 weight_kept axes seen one judged true = refl
 weight_kept axes seen one judged false = refl
 
@@ -90,7 +90,7 @@ all_worth law axes seen point (one ∷ ones) lawful inside may =
     ∙ sym (sum_by-cons (worth_to axes seen point) one ones)
 
 -- where a behaviour raised a fault none is active
-none_active : (seen : Seen) (all : List BegunTurn) → some_active (map (showing_of seen true) all) ≡ false
+none_active : (seen : Seen) (all : List TurnSoFar) → some_active (map (showing_of seen true) all) ≡ false
 none_active seen [] = refl
 none_active seen (one ∷ all) = by (is_some one.out.func) (nat_lt 0 (weight_now one)) (none_active seen all)
   where

@@ -9,10 +9,10 @@ use Rattle.ivp_problem.specs.declared.term.Term.{Term}
 use Rattle.ivp_problem.specs.Problems.{WeightedSum, is_weight}
 use Rattle.ivp_cert.specs.declared.claim.Decision.{Decision}
 use Rattle.ivp_cert.specs.Certificates.{best_decision}
-use Rattle.helm_core.specs.declared.showing.Showing.{Showing}
+use Rattle.helm_core.specs.declared.showing.TurnShown.{TurnShown}
 
 -- one is active
-abbrev pub some_active : List Showing → Bool
+abbrev pub some_active : List TurnShown → Bool
 some_active showings = list_any (λ one. one.active) showings
 
 -- a function with a weight
@@ -20,7 +20,7 @@ abbrev pub term_of : ℕ → Function → Term
 term_of weight func = record { weight = weight; func = func }
 
 -- the function of an active behaviour, with its weight
-abbrev pub active_term : Showing → Option Term
+abbrev pub active_term : TurnShown → Option Term
 active_term one = if one.active then option_map (term_of one.weight) one.out.func else None
 
 -- the term is one of a problem over these axes
@@ -29,11 +29,11 @@ pub record IsFitTerm (axes : List Axis) (term : Term) : Type 0 where
   pub over : term.func.axes ≡ axes
 
 -- the functions of the active behaviours over a domain, in the order of the list
-abbrev pub active_problem : List Axis → List Showing → WeightedSum
+abbrev pub active_problem : List Axis → List TurnShown → WeightedSum
 active_problem axes showings = record { axes = axes; terms = filter_map active_term showings }
 
--- what is decided where a behaviour is active
-abbrev pub decision_made : List Axis → List Showing → Option Decision
+-- what is decided if a behaviour is active
+abbrev pub decision_made : List Axis → List TurnShown → Option Decision
 decision_made axes showings = if some_active showings then Some (best_decision (active_problem axes showings)) else None
 
 -- the number that a point has on the axis at this place

@@ -6,7 +6,7 @@ use Rattle.bhv_file.specs.declared.spec.Spec.{Spec}
 use Rattle.bhv_file.specs.Params.{has_axes, is_avoid}
 use Rattle.bhv_file.specs.Serving.{suits}
 use Rattle.bhv_kinds.specs.Standing.{IsKindOf}
-use Rattle.bhv_kinds.specs.Turns.{KindTurn, params_at}
+use Rattle.bhv_kinds.specs.Changes.{KindChange, params_at}
 use Rattle.helm_core.specs.declared.doer.Doer.{Doer}
 use Rattle.helm_core.specs.declared.doer.Doer.TheVariants.{Kind, Avoid}
 
@@ -16,14 +16,14 @@ params_of (Kind kind) = kind.params
 params_of (Avoid params) = params
 
 -- a behaviour that keeps clear of a contact keeps nothing but the parameters that the updates left
-pub record IsAvoidOf (spec : Spec) (turns : List KindTurn) (now : Spec) : Type 0 where
-  pub params : now ≡ params_at spec turns
+pub record IsAvoidOf (spec : Spec) (changes : List KindChange) (now : Spec) : Type 0 where
+  pub params : now ≡ params_at spec changes
   pub avoids : is_avoid now.shape ≡ true
 
 -- It stands for these updates and steps, the latest first, of a behaviour with these parameters in its file.
-abbrev pub IsDoerOf : Spec → List KindTurn → Doer → Type 0
-IsDoerOf spec turns (Kind kind) = IsKindOf spec turns kind
-IsDoerOf spec turns (Avoid params) = IsAvoidOf spec turns params
+abbrev pub IsDoerOf : Spec → List KindChange → Doer → Type 0
+IsDoerOf spec changes (Kind kind) = IsKindOf spec changes kind
+IsDoerOf spec changes (Avoid params) = IsAvoidOf spec changes params
 
 -- the domain serves a behaviour with these parameters: it has the axes that they need, and suits them
 abbrev pub serves_spec : List Axis → Spec → Bool

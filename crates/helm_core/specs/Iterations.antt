@@ -9,11 +9,11 @@ use Rattle.helm_core.specs.declared.iteration.How.{How}
 use Rattle.helm_core.specs.declared.iteration.How.TheVariants.{Changed, Refused}
 use Rattle.helm_core.specs.declared.iteration.Iteration.{Iteration}
 use Rattle.helm_core.specs.declared.iteration.Update.{Update}
-use Rattle.helm_core.specs.declared.showing.Showing.{Showing}
+use Rattle.helm_core.specs.declared.showing.TurnShown.{TurnShown}
 use Rattle.helm_core.specs.Plans.{Plan}
 use Rattle.helm_core.specs.Ticks.{Tick}
 use Rattle.helm_core.specs.Decisions.{decision_made}
-use Rattle.helm_core.specs.Moments.{Moment, moment_at, moment_before}
+use Rattle.helm_core.specs.PastIterations.{PastIteration, past_iteration_at, past_iteration_before}
 use Rattle.helm_core.specs.Posts.{posts_made}
 
 -- what became of an update that was good or not
@@ -25,19 +25,19 @@ abbrev pub update_of : List ℕ → Bool → Update
 update_of name taken = record { name = name; how = how_taken taken }
 
 -- the updates of a behaviour, in order
-abbrev pub updates_of : Showing → List Update
+abbrev pub updates_of : TurnShown → List Update
 updates_of one = map (update_of one.name) one.taken
 
 -- what a behaviour is
-abbrev pub state_of : Showing → BhvNow
+abbrev pub state_of : TurnShown → BhvNow
 state_of one = record { name = one.name; state = one.outcome.now }
 
 -- a fault of the behaviour of this name
 abbrev pub error_of : List ℕ → BhvFault → BhvError
 error_of name fault = record { name = name; fault = fault }
 
--- the fault of a behaviour, where it raised one
-abbrev pub fault_of : Showing → Option BhvError
+-- the fault of a behaviour, if it raised one
+abbrev pub fault_of : TurnShown → Option BhvError
 fault_of one = option_map (error_of one.name) one.out.fault
 
 -- those of these updates that the behaviour or the template of this block heard
@@ -45,19 +45,19 @@ abbrev pub heard_by_block : List Update → Block → List Update
 heard_by_block heard block = filter (λ update. bytes_eq update.name block.common.name) heard
 
 -- the updates of all behaviours and templates, in file order
-abbrev pub all_updates : List Block → List Update → List Showing → List Update
+abbrev pub all_updates : List Block → List Update → List TurnShown → List Update
 all_updates blocks answers showings = flat_map (heard_by_block (answers ++ flat_map updates_of showings)) blocks
 
 -- what each behaviour is
-abbrev pub all_states : List Showing → List BhvNow
+abbrev pub all_states : List TurnShown → List BhvNow
 all_states showings = map state_of showings
 
 -- the faults of all behaviours
-abbrev pub all_faults : List Showing → List BhvError
+abbrev pub all_faults : List TurnShown → List BhvError
 all_faults showings = filter_map fault_of showings
 
 -- the answer of an iteration after this one
-abbrev pub iteration_of : Plan → Option Moment → Moment → Iteration
+abbrev pub iteration_of : Plan → Option PastIteration → PastIteration → Iteration
 iteration_of plan before now = record {
   stamp = now.seen.stamp;
   parked = now.seen.parked;
@@ -71,4 +71,4 @@ iteration_of plan before now = record {
 
 -- Iteration i.
 abbrev pub iteration_at : Plan → List Tick → ℕ → Iteration
-iteration_at plan ticks i = iteration_of plan (moment_before plan ticks i) (moment_at plan ticks i)
+iteration_at plan ticks i = iteration_of plan (past_iteration_before plan ticks i) (past_iteration_at plan ticks i)

@@ -4,7 +4,7 @@ pub mod Behaviors
 pub mod Doers
 pub mod Templates
 pub mod Lists
-pub mod Moments
+pub mod PastIterations
 pub mod Decisions
 pub mod Posts
 pub mod Iterations

@@ -3,7 +3,7 @@ use Rattle.std.specs.Prelude.{◌≡◌, ℕ, zero, suc, ◌<◌, ◌⊎◌, Boo
 use Rattle.std.specs.List.{All, filter}
 use Rattle.bhv_file.specs.declared.file.Block.{Block}
 use Rattle.bhv_life.specs.Lives.{can_run}
-use Rattle.helm_core.specs.declared.showing.Showing.{Showing}
+use Rattle.helm_core.specs.declared.showing.TurnShown.{TurnShown}
 use Rattle.helm_core.specs.Plans.{Plan, is_template}
 use Rattle.helm_core.specs.Ticks.{Tick, seen_at}
 use Rattle.helm_core.specs.Behaviors.{BhvSoFar, Birth, all_after, all_begun, all_showings, past_so_far, unstarted}
@@ -40,14 +40,14 @@ abbrev pub list_at : Plan → List Tick → ℕ → List BhvSoFar
 list_at plan ticks i = (spawned_at plan ticks i).ones
 
 -- What iteration i says of the behaviours of its list, in its order.
-abbrev pub showings_at : Plan → List Tick → ℕ → List Showing
+abbrev pub showings_at : Plan → List Tick → ℕ → List TurnShown
 showings_at plan ticks i = all_showings (seen_at plan.decls ticks i) (all_begun plan.axes (seen_at plan.decls ticks i) (list_at plan ticks i))
 
 -- a letter of an earlier iteration, or an earlier one of the same
 abbrev pub IsEarlier : Birth → Birth → Type 0
 IsEarlier one other = (one.iteration < other.iteration) ⊎ ((one.iteration ≡ other.iteration) × (one.letter < other.letter))
 
--- made by a letter, and where one was made before by a later one than that
+-- made by a letter, and if one was made before by a later one than that
 abbrev pub IsBornBehind : Option Birth → Option Birth → Type 0
 IsBornBehind before None = ⊥
 IsBornBehind None (Some birth) = Unit {0}

@@ -7,7 +7,7 @@ use Rattle.bhv_file.specs.declared.file.BhvFile.{BhvFile}
 use Rattle.bhv_file.specs.declared.spec.Avoidance.{Avoidance}
 use Rattle.bhv_file.specs.declared.spec.Shape.TheVariants.{AvoidCollision}
 use Rattle.bhv_file.specs.Validity.{IsValidFile}
-use Rattle.bhv_kinds.specs.Turns.{params_at}
+use Rattle.bhv_kinds.specs.Changes.{params_at}
 use Rattle.bhv_life.specs.Lives.{is_stepped}
 use Rattle.mission_reader.specs.declared.mission.Mission.{Mission}
 use Rattle.helm_core.specs.Behaviors.{BhvSoFar, begun_at, beginning_at, bhv_after, judged_at, past_so_far}
@@ -32,10 +32,10 @@ clear_of contact = codes "avd_" ++ contact
 abbrev pub OneOfEachContact : Type 0
 OneOfEachContact = (mission : Mission) (file : BhvFile) → IsValidFile file → (ticks : List Tick) (i : ℕ) (contact : List ℕ) → count_named (clear_of contact) (list_at (plan_made mission file) ticks i) ≤ 1
 
--- One that a letter made and that isn't perpetual, and whose contact is clear for good after its updates: where it is stepped its
+-- One that a letter made and that isn't perpetual, and whose contact is clear for good after its updates: if it is stepped its
 -- step is done, and behind its turn it leaves the list.
 abbrev pub ResolvedLeave : Type 0
 ResolvedLeave = (axes : List Axis) (seen : Seen) (fault : Bool) (one : BhvSoFar) (avoidance : Avoidance) → is_some one.born ≡ true → one.block.common.perpetual ≡ false
-    → (params_at one.block.spec (judged_at axes seen one).turns).shape ≡ AvoidCollision avoidance → avoidance.resolved ≡ true
+    → (params_at one.block.spec (judged_at axes seen one).changes).shape ≡ AvoidCollision avoidance → avoidance.resolved ≡ true
     → is_stepped one.block.common (past_so_far one) (beginning_at seen one.block.common) ≡ true
     → ((begun_at axes seen one).out.done ≡ true) × (stays (bhv_after seen fault (begun_at axes seen one)) ≡ false)

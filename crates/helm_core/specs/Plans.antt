@@ -43,7 +43,7 @@ block_names block = flat_map names_in block.common.conds ++ option_to_list block
 abbrev pub names_read : Plan → List (List ℕ)
 names_read plan = always_read ++ flat_map decl_names plan.decls ++ flat_map block_names plan.blocks
 
--- the names, and this one where it isn't among them; MODE is the helm's own and never wanted
+-- the names, and this one if it isn't among them; MODE is the helm's own and never wanted
 abbrev pub with_wanted : List (List ℕ) → List ℕ → List (List ℕ)
 with_wanted names name = if bytes_eq name (codes "MODE") || list_any (bytes_eq name) names then names else names ++ name ∷ []
 

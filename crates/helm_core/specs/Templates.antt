@@ -11,7 +11,7 @@ use Rattle.moos_text.specs.Pairs.{Sides, sides_of}
 use Rattle.ivp_domain.specs.declared.axis.Axis.{Axis}
 use Rattle.bhv_file.specs.declared.file.Block.{Block}
 use Rattle.bhv_file.specs.declared.spec.Spec.{Spec}
-use Rattle.bhv_kinds.specs.Turns.{KindTurn, Updated, params_at}
+use Rattle.bhv_kinds.specs.Changes.{KindChange, Updated, params_at}
 use Rattle.bhv_file.specs.Updates.{updated}
 use Rattle.helm_core.specs.declared.iteration.How.{How}
 use Rattle.helm_core.specs.declared.iteration.How.TheVariants.{Refused, Changed, Spawned}
@@ -24,7 +24,7 @@ use Rattle.helm_core.specs.Plans.{is_template}
 abbrev pub is_hash : ℕ → Bool
 is_hash byte = byte == 35
 
--- what stands behind the first `#`, where there is one
+-- what follows the first `#`, if there is one
 abbrev pub behind_hash : List ℕ → Option (List ℕ)
 behind_hash text = if nat_lt (position_or_len is_hash text) (length text) then Some (after_first is_hash text) else None
 
@@ -36,7 +36,7 @@ name_said sides = if str_eq_ignore_ascii_case sides.name (codes "name") && is_na
 abbrev pub named_with : Option (List ℕ) → List ℕ → NamedPairs
 named_with pairs name = record { name = name; pairs = pairs }
 
--- what a text says to a template: its first part is `name=N`, and what stands behind it, if anything, are pairs
+-- what a text says to a template: its first part is `name=N`, and what follows it, if anything, are pairs
 abbrev pub named_pairs : List ℕ → Option NamedPairs
 named_pairs text = option_map (named_with (behind_hash text)) (option_and_then name_said (sides_of (before_first is_hash text)))
 
@@ -50,18 +50,18 @@ abbrev pub are_good : List Axis → Spec → Option (List ℕ) → Bool
 are_good axes params None = true
 are_good axes params (Some pairs) = is_some (updated axes params pairs)
 
--- one update more, where there are pairs
-abbrev pub with_said : List Axis → List KindTurn → Option (List ℕ) → List KindTurn
-with_said axes turns None = turns
-with_said axes turns (Some pairs) = Updated axes pairs ∷ turns
+-- one update more, if there are pairs
+abbrev pub with_said : List Axis → List KindChange → Option (List ℕ) → List KindChange
+with_said axes changes None = changes
+with_said axes changes (Some pairs) = Updated axes pairs ∷ changes
 
 -- the behaviour that a letter makes of a template: it has the name that was said, and the template's parameters with the pairs
 abbrev pub made_from : List Axis → Block → Birth → NamedPairs → BhvSoFar
-made_from axes template birth said = record { name = said.name; block = template; born = Some birth; lived = []; turns = with_said axes [] said.pairs }
+made_from axes template birth said = record { name = said.name; block = template; born = Some birth; lived = []; changes = with_said axes [] said.pairs }
 
 -- the behaviour with these pairs too
 abbrev pub changed_by : List Axis → NamedPairs → BhvSoFar → BhvSoFar
-changed_by axes said one = record one { turns = with_said axes one.turns said.pairs }
+changed_by axes said one = record one { changes = with_said axes one.changes said.pairs }
 
 -- the behaviour has this name
 abbrev pub bears_name : List ℕ → BhvSoFar → Bool
@@ -95,15 +95,15 @@ heard_new axes blocks at template so_far said =
     then answered template so_far (so_far.ones ++ made_from axes template (record { iteration = at; letter = length so_far.answers }) said ∷ []) (Spawned said.name)
     else answered template so_far so_far.ones Refused
 
--- a letter with the name of this one, which stands at this place of the list
+-- a letter with the name of this one, which is at this place of the list
 abbrev pub heard_known : List Axis → Block → Spawning → NamedPairs → ℕ → Option BhvSoFar → Spawning
 heard_known axes template so_far said place None = answered template so_far so_far.ones Refused
 heard_known axes template so_far said place (Some one) =
-    if is_made_of template one && are_good axes (params_at one.block.spec one.turns) said.pairs
+    if is_made_of template one && are_good axes (params_at one.block.spec one.changes) said.pairs
     then answered template so_far (slice_set so_far.ones place (changed_by axes said one)) Changed
     else answered template so_far so_far.ones Refused
 
--- by the place in the list where the name stands, if it does
+-- by the place in the list where the name is, if it does
 abbrev pub heard_at_place : List Axis → List Block → ℕ → Block → Spawning → NamedPairs → Option ℕ → Spawning
 heard_at_place axes blocks at template so_far said None = heard_new axes blocks at template so_far said
 heard_at_place axes blocks at template so_far said (Some place) = heard_known axes template so_far said place (slice_get so_far.ones place)
@@ -113,12 +113,12 @@ abbrev pub heard_said : List Axis → List Block → ℕ → Block → Spawning 
 heard_said axes blocks at template so_far None = answered template so_far so_far.ones Refused
 heard_said axes blocks at template so_far (Some said) = heard_at_place axes blocks at template so_far said (position (bears_name said.name) so_far.ones)
 
--- a letter, which is one to the template where it is of its variable
+-- a letter, which is one to the template if it is of its variable
 abbrev pub heard_to : List Axis → List Block → ℕ → Block → Spawning → Pair → Spawning
 heard_to axes blocks at template so_far letter =
     if option_eq bytes_eq template.common.updates (Some letter.var) then heard_said axes blocks at template so_far (said_by letter.value) else so_far
 
--- all letters to a block of the file, where it is a template
+-- all letters to a block of the file, if it is a template
 abbrev pub heard_by : List Axis → List Block → ℕ → List Pair → Spawning → Block → Spawning
 heard_by axes blocks at letters so_far block = if is_template block then fold (heard_to axes blocks at block) so_far letters else so_far
 
@@ -126,6 +126,6 @@ heard_by axes blocks at letters so_far block = if is_template block then fold (h
 abbrev pub none_spawned : List BhvSoFar → Spawning
 none_spawned ones = record { ones = ones; answers = [] }
 
--- The letters of iteration `at` to all templates, in file order, where this was the list before.
+-- The letters of iteration `at` to all templates, in file order, if this was the list before.
 abbrev pub spawned : List Axis → List Block → ℕ → List Pair → List BhvSoFar → Spawning
 spawned axes blocks at letters ones = fold (heard_by axes blocks at letters) (none_spawned ones) blocks

@@ -57,7 +57,7 @@ abbrev pub is_false : Value → Bool
 is_false (Num number) = false
 is_false (Text text) = str_eq_ignore_ascii_case text (codes "false")
 
--- an override gives the vehicle to the helm where it is false; without one the helm hasn't got it
+-- an override gives the vehicle to the helm if it is false; without one the helm hasn't got it
 abbrev pub gives_way : Option Value → Bool
 gives_way None = false
 gives_way (Some value) = is_false value

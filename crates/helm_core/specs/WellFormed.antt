@@ -1,4 +1,4 @@
--- What a helm says in its community: each of its calls is as a call's type lets it be, and whatever an iteration names stands
+-- What a helm says in its community: each of its calls is as a call's type lets it be, and whatever an iteration names is
 -- on one line.
 use Rattle.std.specs.Prelude.{ℕ, IsTrue, IfSome, List, [], ◌∷◌, ◌++◌, map}
 use Rattle.std.specs.List.{All, flat_map}
@@ -17,7 +17,7 @@ use Rattle.helm_core.specs.Iterations.{iteration_at}
 use Rattle.helm_core.specs.Plans.{Plan, plan_made, wants_of}
 use Rattle.helm_core.specs.Ticks.{Tick}
 
--- the name of what an update made, where it made one
+-- the name of what an update made, if it made one
 abbrev pub name_made : How → List (List ℕ)
 name_made Refused = []
 name_made Changed = []

@@ -9,7 +9,7 @@ use Rattle.ivp_cert.specs.declared.claim.Decision.{Decision}
 use Rattle.bhv_file.specs.declared.file.BhvFile.{BhvFile}
 use Rattle.bhv_file.specs.Validity.{IsValidFile, serves}
 use Rattle.bhv_kinds.specs.Giving.{gives_at}
-use Rattle.bhv_kinds.specs.Turns.{params_at, step_of}
+use Rattle.bhv_kinds.specs.Changes.{params_at, step_of}
 use Rattle.bhv_kinds.specs.Utilities.{Utility, worth_at}
 use Rattle.bhv_life.specs.Lives.{is_fresh, is_stepped}
 use Rattle.mission_reader.specs.declared.mission.Mission.{Mission}
@@ -20,23 +20,23 @@ use Rattle.helm_core.specs.Lists.{list_at}
 use Rattle.helm_core.specs.Plans.{Plan, plan_made}
 use Rattle.helm_core.specs.Ticks.{Seen, Tick, seen_at}
 
--- what a behaviour wants after its updates, where it is stepped
+-- what a behaviour wants after its updates, if it is stepped
 abbrev pub wanted_by_step : List Axis → Seen → BhvSoFar → Judged → Bool → Option Utility
-wanted_by_step axes seen one judged true = (gives_at one.block.spec judged.turns (step_of axes seen.known seen.stamp (is_fresh (past_so_far one)))).utility
+wanted_by_step axes seen one judged true = (gives_at one.block.spec judged.changes (step_of axes seen.known seen.stamp (is_fresh (past_so_far one)))).utility
 wanted_by_step axes seen one judged false = None
 
 -- what a behaviour wants in an iteration, or nothing
 abbrev pub wanted_at : List Axis → Seen → BhvSoFar → Option Utility
 wanted_at axes seen one = wanted_by_step axes seen one (judged_at axes seen one) (is_stepped one.block.common (past_so_far one) (beginning_at seen one.block.common))
 
--- a weight times what is wanted at a point; nothing where nothing is wanted
+-- a weight times what is wanted at a point; nothing if nothing is wanted
 abbrev pub times_worth : List Axis → Point → ℕ → Option Utility → ℕ
 times_worth axes point weight None = 0
 times_worth axes point weight (Some utility) = weight * worth_at axes utility point
 
 -- the priority-weighted worth of a point to one behaviour
 abbrev pub worth_to : List Axis → Seen → Point → BhvSoFar → ℕ
-worth_to axes seen point one = times_worth axes point (params_at one.block.spec (judged_at axes seen one).turns).weight (wanted_at axes seen one)
+worth_to axes seen point one = times_worth axes point (params_at one.block.spec (judged_at axes seen one).changes).weight (wanted_at axes seen one)
 
 -- and to all of them
 abbrev pub worth_to_all : List Axis → Seen → List BhvSoFar → Point → ℕ

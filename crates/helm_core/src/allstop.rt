@@ -1,12 +1,12 @@
 // The allstop: why a helm asks for no motion.
 ghost use Rattle.std.specs.Prelude.{◌≡◌, IsTrue};
 ghost use Rattle.moos_post.specs.Words.{is_text};
-ghost use Rattle.bhv_file.specs.Params.{has_axis};
 ghost use Rattle.helm_core.specs.Decisions.{some_active};
 ghost use Rattle.helm_core.specs.Helms.{allstop_text};
 ghost use Rattle.helm_core.specs.Posts.{allstop_by, lacks_decision, mentions_course, mentions_depth, mentions_speed, some_fault};
 
-use crate::showing::Showing;
+use crate::showing::TurnShown;
+use bhv_file::has_axis;
 use ivp_domain::Domain;
 
 // Why the vehicle must stop, or that it need not.
@@ -21,7 +21,7 @@ pub(crate) enum Allstop {
 
 impl Allstop {
     // The reason, by whether the helm is parked and by the behaviours.
-    pub fn of(domain: &Domain, parked: bool, showings: &[Showing]) -> Allstop
+    pub fn of(domain: &Domain, parked: bool, showings: &[TurnShown]) -> Allstop
         ensures { allstop_text result ≡ allstop_by domain.now parked showings.now }
     {
         if parked {
@@ -53,46 +53,40 @@ impl Allstop {
 }
 
 // Whether a behaviour raised a fault.
-fn some_fault(showings: &[Showing]) -> bool
+fn some_fault(showings: &[TurnShown]) -> bool
     ensures { result ≡ some_fault showings.now }
 {
     showings.iter().any(|one| one.out.fault.is_some())
 }
 
 // Whether a behaviour is active.
-pub(crate) fn some_active(showings: &[Showing]) -> bool
+pub(crate) fn some_active(showings: &[TurnShown]) -> bool
     ensures { result ≡ some_active showings.now }
 {
     showings.iter().any(|one| one.active)
 }
 
 // Whether the domain has course or speed, and no active behaviour's function mentions it.
-fn lacks_decision(domain: &Domain, showings: &[Showing]) -> bool
+fn lacks_decision(domain: &Domain, showings: &[TurnShown]) -> bool
     ensures { result ≡ lacks_decision domain.now showings.now }
 {
     has_axis(domain, b"course") && !mentions_course(showings)
         || has_axis(domain, b"speed") && !mentions_speed(showings)
 }
 
-fn has_axis(domain: &Domain, name: &[u8]) -> bool
-    ensures { result ≡ has_axis domain.now name.now }
-{
-    domain.all().iter().any(|axis| axis.name.bytes() == name)
-}
-
-pub(crate) fn mentions_course(showings: &[Showing]) -> bool
+pub(crate) fn mentions_course(showings: &[TurnShown]) -> bool
     ensures { result ≡ mentions_course showings.now }
 {
     showings.iter().any(|one| one.active && one.out.course)
 }
 
-pub(crate) fn mentions_speed(showings: &[Showing]) -> bool
+pub(crate) fn mentions_speed(showings: &[TurnShown]) -> bool
     ensures { result ≡ mentions_speed showings.now }
 {
     showings.iter().any(|one| one.active && one.out.speed)
 }
 
-pub(crate) fn mentions_depth(showings: &[Showing]) -> bool
+pub(crate) fn mentions_depth(showings: &[TurnShown]) -> bool
     ensures { result ≡ mentions_depth showings.now }
 {
     showings.iter().any(|one| one.active && one.out.depth)

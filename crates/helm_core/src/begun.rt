@@ -3,15 +3,15 @@ ghost use Rattle.std.specs.Prelude.{◌≡◌, ℕ, ◌<◌, ◌≤◌, List, �
 ghost use Rattle.bhv_file.specs.declared.file.Block.{Block};
 ghost use Rattle.ivp_domain.specs.declared.axis.Axis.{Axis};
 ghost use Rattle.bhv_life.specs.Outcomes.{flags_at, raised};
-ghost use Rattle.helm_core.specs.Behaviors.{BegunTurn, BhvSoFar};
+ghost use Rattle.helm_core.specs.Behaviors.{TurnSoFar, BhvSoFar};
 ghost use Rattle.helm_core.specs.Standings.{BeginsTurn, IsBegun, IsEnded, IsFitBegun, IsFitEnded, IsKept, IsReady, Sees};
 ghost use Rattle.helm_core.specs.Ticks.{Seen, pairs_mailed};
 
 use crate::behavior::{Behavior, BoxedDoer};
+use crate::helm_view::HelmView;
 use crate::judging::judge_own;
-use crate::outlook::Outlook;
 use crate::posts::add_pairs;
-use crate::showing::Showing;
+use crate::showing::TurnShown;
 use crate::stepping::step_in;
 use bhv_file::Common;
 use bhv_kinds::Out;
@@ -23,7 +23,7 @@ use std::alloc::Global;
 
 // A turn of a behaviour after its step: which of its updates were good, and what the step gave.
 #[derive(Drop)]
-pub(crate) struct Begun<'a> {
+pub(crate) struct TurnBegun<'a> {
     pub name: Name,
     pub block: usize,
     pub made: bool,
@@ -36,9 +36,9 @@ pub(crate) struct Begun<'a> {
 
 // What the helm keeps of a behaviour after its turn, what the iteration says of it, and whether it stays in the list.
 #[derive(Drop)]
-pub(crate) struct EndedTurn {
+pub(crate) struct TurnEnded {
     pub kept: Behavior,
-    pub showing: Showing,
+    pub showing: TurnShown,
     pub stays: bool,
 }
 
@@ -50,8 +50,8 @@ pub(crate) fn begin<'a>(
     kept: &Behavior,
     stamp: u64,
     letters: &[Letter],
-    now: &Outlook,
-) -> Result<Begun<'a>, NoMemory>
+    now: &HelmView,
+) -> Result<TurnBegun<'a>, NoMemory>
     requires ready { IsReady domain.now kept.now.doer }
     ensures begins { IfOk result (λ begun. (blocks : List Block) (clock : ℕ) (seen : Seen) (one : BhvSoFar) → clock ≤ stamp → Sees seen stamp (pairs_mailed letters.now) now.now → one.block.common ≡ common.now → IsKept blocks clock one kept.now → BeginsTurn domain.now blocks seen one begun) }
     ensures fit { IfOk result (λ begun. (blocks : List Block) → kept.now.block < length blocks → IsFitBegun domain.now blocks begun) }
@@ -72,7 +72,7 @@ pub(crate) fn begin<'a>(
     let out = step_in(alloc, started.phase, domain, &now.info, stamp, &mut doer)?;
     let doer = BoxedDoer::of(alloc, doer)?;
     let name = kept.name.copy(alloc)?;
-    Ok(Begun {
+    Ok(TurnBegun {
         name,
         block: kept.block,
         made: kept.made,
@@ -84,7 +84,7 @@ pub(crate) fn begin<'a>(
     })
 }
 
-impl<'a> Begun<'a> {
+impl<'a> TurnBegun<'a> {
     // Whether its step raised a fault.
     pub fn has_fault(&self) -> bool
         ensures { result ≡ is_some self.now.out.fault }
@@ -93,8 +93,8 @@ impl<'a> Begun<'a> {
     }
 
     // Ends the turn, by whether any behaviour raised a fault.
-    pub fn finish(self, alloc: Global, fault: bool) -> Result<EndedTurn, NoMemory>
-        ensures ends { IfOk result (λ ended. (blocks : List Block) (seen : Seen) (one : BegunTurn) → IsBegun blocks seen one self.entry → IsEnded blocks seen fault one ended) }
+    pub fn finish(self, alloc: Global, fault: bool) -> Result<TurnEnded, NoMemory>
+        ensures ends { IfOk result (λ ended. (blocks : List Block) (seen : Seen) (one : TurnSoFar) → IsBegun blocks seen one self.entry → IsEnded blocks seen fault one ended) }
         ensures fit { IfOk result (λ ended. (axes : List Axis) (blocks : List Block) → IsFitBegun axes blocks self.entry → IsFitEnded axes blocks ended) }
     {
         let weight = self.doer.lent().weight();
@@ -103,7 +103,7 @@ impl<'a> Begun<'a> {
         let flags = flags_at(alloc, self.common, outcome)?;
         let name = self.name.copy(alloc)?;
         let stays = stays(self.made, life.can_run(self.common));
-        Ok(EndedTurn {
+        Ok(TurnEnded {
             kept: Behavior {
                 name: self.name,
                 block: self.block,
@@ -111,7 +111,7 @@ impl<'a> Begun<'a> {
                 doer: self.doer,
                 life,
             },
-            showing: Showing {
+            showing: TurnShown {
                 name,
                 taken: self.taken,
                 out: self.out,
@@ -153,7 +153,7 @@ fn flags_at(alloc: Global, common: &Common, outcome: Outcome) -> Result<Batch, N
     Ok(flags)
 }
 
-// Adds flags, where they are raised.
+// Adds flags, if they are raised.
 fn raise(alloc: Global, is_raised: bool, pairs: &Batch, flags: &mut Batch) -> Result<(), NoMemory>
     ensures { OnOk result (flags.new ≡ flags.old ++ raised is_raised pairs.now) }
 {

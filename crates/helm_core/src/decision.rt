@@ -12,7 +12,7 @@ ghost use Rattle.helm_core.specs.Standings.{IsFit};
 use crate::allstop::{Allstop, some_active};
 use crate::own_names::OwnNames;
 use crate::posts::add_number;
-use crate::showing::Showing;
+use crate::showing::TurnShown;
 use ivp_cert::{Decision, decide};
 use ivp_domain::{Axis, Domain, Point};
 use ivp_problem::{Problem, Term};
@@ -22,12 +22,12 @@ use std::alloc::Global;
 use std::sync::Wait;
 use std::thread::Threads;
 
-// The decision, or None exactly where no behaviour is active.
+// The decision, or None exactly if no behaviour is active.
 pub(crate) fn decision_made<R: Threads + Wait + Sync, G: Gate>(
     rt: &R,
     alloc: Global,
     domain: Domain,
-    showings: Vec<Showing>,
+    showings: Vec<TurnShown>,
     workers: u32,
     gate: &G,
 ) -> Result<Option<Decision>, NoMemory>
@@ -48,7 +48,7 @@ pub(crate) fn decision_made<R: Threads + Wait + Sync, G: Gate>(
 }
 
 // The functions of the active behaviours with their weights, in the order of the list.
-fn active_terms(alloc: Global, showings: Vec<Showing>) -> Result<Vec<Term>, NoMemory>
+fn active_terms(alloc: Global, showings: Vec<TurnShown>) -> Result<Vec<Term>, NoMemory>
     ensures { IfOk result (λ terms. terms.items ≡ filter_map active_term showings.items) }
 {
     let mut terms = Vec::with_capacity(alloc, showings.len())?;
@@ -58,18 +58,20 @@ fn active_terms(alloc: Global, showings: Vec<Showing>) -> Result<Vec<Term>, NoMe
     Ok(terms)
 }
 
-fn add_term(terms: &mut Vec<Term>, showing: Showing) -> Result<(), NoMemory>
+fn add_term(terms: &mut Vec<Term>, showing: TurnShown) -> Result<(), NoMemory>
     ensures { OnOk result (terms.new.items ≡ terms.old.items ++ option_to_list (active_term showing)) }
 {
-    let Showing {
+    let TurnShown {
         active,
         out,
         weight,
         ..
     } = showing;
-    match out.func {
-        Some(func) if active => terms.push(Term { weight, func })?,
-        _ => {},
+    if !active {
+        return Ok(());
+    }
+    if let Some(func) = out.func {
+        terms.push(Term { weight, func })?;
     }
     Ok(())
 }
@@ -87,7 +89,7 @@ fn problem_of(domain: Domain, terms: Vec<Term>) -> Problem
     }
 }
 
-// Adds the decided course, where an active behaviour's function mentions it.
+// Adds the decided course, if an active behaviour's function mentions it.
 pub(crate) fn add_heading(
     alloc: Global,
     posts: &mut Batch,
@@ -101,7 +103,7 @@ pub(crate) fn add_heading(
     add_desired(alloc, posts, own.heading(), b"course", mentioned, decision)
 }
 
-// Adds the decided depth, likewise.
+// Adds the decided depth, if an active behaviour's function mentions it.
 pub(crate) fn add_depth(
     alloc: Global,
     posts: &mut Batch,
@@ -115,7 +117,7 @@ pub(crate) fn add_depth(
     add_desired(alloc, posts, own.depth(), b"depth", mentioned, decision)
 }
 
-// Adds the speed: 0 where the vehicle must stop, else the decided one where it is mentioned.
+// Adds the speed: 0 if the vehicle must stop, else the decided one if it is mentioned.
 pub(crate) fn add_speed(
     alloc: Global,
     posts: &mut Batch,
@@ -133,7 +135,7 @@ pub(crate) fn add_speed(
     }
 }
 
-// Adds the decided number of an axis, where an active behaviour's function mentions it.
+// Adds the decided number of an axis, if an active behaviour's function mentions it.
 fn add_desired(
     alloc: Global,
     posts: &mut Batch,
@@ -155,7 +157,7 @@ fn add_desired(
     }
 }
 
-// The number that a point has on the axis of this name, 0 where there is none.
+// The number that a point has on the axis of this name, 0 if there is none.
 fn number_on(domain: &Domain, name: &[u8], point: &Point) -> i64
     requires point { IsTrue (is_point domain.now point.now) }
     ensures number { result ≡ number_on domain.now name.now point.now }

@@ -6,7 +6,7 @@ ghost use Rattle.bhv_file.specs.Params.{is_avoid};
 ghost use Rattle.bhv_file.specs.Updates.{updated};
 ghost use Rattle.bhv_file.specs.Validity.{IsValidSpec};
 ghost use Rattle.bhv_kinds.specs.Giving.{out_at};
-ghost use Rattle.bhv_kinds.specs.Turns.{KindTurn, Stepped, Updated, params_at, step_of};
+ghost use Rattle.bhv_kinds.specs.Changes.{KindChange, Stepped, Updated, params_at, step_of};
 ghost use Rattle.helm_core.specs.Doers.{IsDoerOf, serves_doer};
 
 use bhv_file::{Out, Shape, Spec};
@@ -55,8 +55,8 @@ impl Doer {
 
     // Its weight beside the other behaviours, in thousandths.
     pub fn weight(&self) -> u32
-        ensures weight { (spec : SpecNow) (turns : List KindTurn) → IsDoerOf spec turns self.now → result ≡ (params_at spec turns).weight }
-        ensures most { (spec : SpecNow) (turns : List KindTurn) → IsDoerOf spec turns self.now → result ≤ 10 ^ 7 }
+        ensures weight { (spec : SpecNow) (changes : List KindChange) → IsDoerOf spec changes self.now → result ≡ (params_at spec changes).weight }
+        ensures most { (spec : SpecNow) (changes : List KindChange) → IsDoerOf spec changes self.now → result ≤ 10 ^ 7 }
     {
         match self {
             Doer::Kind(kind) => kind.weight(),
@@ -64,10 +64,10 @@ impl Doer {
         }
     }
 
-    // Takes an update over a domain. False exactly where it isn't good as a whole; then nothing changed.
+    // Takes an update over a domain. False exactly if it isn't good as a whole; then nothing changed.
     pub fn update(&mut self, alloc: Global, domain: &Domain, text: &Txt) -> Result<bool, NoMemory>
-        ensures good { IfOk result (λ good. (spec : SpecNow) (turns : List KindTurn) → IsDoerOf spec turns self.old → good ≡ is_some (updated domain.now (params_at spec turns) text.now)) }
-        ensures stands { IfOk result (λ _. (spec : SpecNow) (turns : List KindTurn) → IsDoerOf spec turns self.old → IsDoerOf spec (Updated domain.now text.now ∷ turns) self.new) }
+        ensures good { IfOk result (λ good. (spec : SpecNow) (changes : List KindChange) → IsDoerOf spec changes self.old → good ≡ is_some (updated domain.now (params_at spec changes) text.now)) }
+        ensures stands { IfOk result (λ _. (spec : SpecNow) (changes : List KindChange) → IsDoerOf spec changes self.old → IsDoerOf spec (Updated domain.now text.now ∷ changes) self.new) }
     {
         match self {
             Doer::Kind(kind) => kind.update(alloc, text),
@@ -85,8 +85,8 @@ impl Doer {
         fresh: bool,
     ) -> Result<Out, NoMemory>
         requires served { IsTrue (serves_doer domain.now self.old) }
-        ensures out { IfOk result (λ out. (spec : SpecNow) (turns : List KindTurn) → IsDoerOf spec turns self.old → out ≡ out_at spec turns (step_of domain.now (knowledge_of info.now) stamp fresh)) }
-        ensures stands { IfOk result (λ _. (spec : SpecNow) (turns : List KindTurn) → IsDoerOf spec turns self.old → IsDoerOf spec (Stepped (step_of domain.now (knowledge_of info.now) stamp fresh) ∷ turns) self.new) }
+        ensures out { IfOk result (λ out. (spec : SpecNow) (changes : List KindChange) → IsDoerOf spec changes self.old → out ≡ out_at spec changes (step_of domain.now (knowledge_of info.now) stamp fresh)) }
+        ensures stands { IfOk result (λ _. (spec : SpecNow) (changes : List KindChange) → IsDoerOf spec changes self.old → IsDoerOf spec (Stepped (step_of domain.now (knowledge_of info.now) stamp fresh) ∷ changes) self.new) }
     {
         match self {
             Doer::Kind(kind) => kind.step(alloc, domain, info, stamp, fresh),

@@ -13,15 +13,15 @@ ghost use Rattle.helm_core.specs.Ticks.{pairs_mailed};
 
 use crate::allstop::{Allstop, mentions_course, mentions_depth, mentions_speed};
 use crate::behavior::Behavior;
-use crate::crew::Crew;
+use crate::behavior_list::BehaviorList;
 use crate::decision::{add_depth, add_heading, add_speed, decision_made};
+use crate::helm_view::HelmView;
 use crate::iteration::{Iteration, Updates};
-use crate::outlook::Outlook;
 use crate::own_names::OwnNames;
 use crate::posts::add_changed;
-use crate::showing::Showing;
+use crate::showing::TurnShown;
 use crate::telling::{add_flags, told_of};
-use crate::turned::Turned;
+use crate::turned::TurnsEnded;
 use crate::wanted::Wanted;
 use bhv_file::BhvFile;
 use ivp_cert::Decision;
@@ -41,8 +41,8 @@ pub struct Helm {
     own: Box<OwnNames>,
     opening: Batch,
     modes: ModeTree,
-    crew: Crew,
-    outlook: Outlook,
+    behavior_list: BehaviorList,
+    helm_view: HelmView,
     // Why the vehicle had to stop in the last iteration, if it had to, or None before the first.
     allstop: Option<Allstop>,
     // When the last iteration was, in milliseconds, or 0 before the first.
@@ -51,7 +51,7 @@ pub struct Helm {
 
 impl Helm {
     /// The helm of a mission and its behaviour file, which has heard nothing. The mission's domain has the axes that the
-    /// behaviours need. NoMemory is answered only where memory is missing.
+    /// behaviours need. NoMemory is answered only if memory is missing.
     pub fn make(alloc: Global, mission: &Mission, file: BhvFile) -> Result<Helm, NoMemory>
         requires mission { IsValidMission mission.now }
         requires file { IsValidFile file }
@@ -67,14 +67,14 @@ impl Helm {
         } = file;
         let own = OwnNames::boxed(alloc)?;
         let modes = ModeTree::make(decls);
-        let outlook = Outlook::blank(alloc, &modes)?;
-        let crew = Crew::make(alloc, mission.domain, blocks)?;
+        let helm_view = HelmView::blank(alloc, &modes)?;
+        let behavior_list = BehaviorList::make(alloc, mission.domain, blocks)?;
         Ok(Helm {
             own,
             opening,
             modes,
-            crew,
-            outlook,
+            behavior_list,
+            helm_view,
             allstop: None,
             clock: 0,
         })
@@ -82,7 +82,7 @@ impl Helm {
 
     /// What the helm registers for, each variable once: the override in both spellings, the position (NAV_X, NAV_Y and
     /// NAV_DEPTH), the variables of the modes' conditions, and of each behaviour those of its conditions and the one of its
-    /// updates. MODE is never among them, as it is the helm's own. NoMemory is answered only where memory is missing.
+    /// updates. MODE is never among them, as it is the helm's own. NoMemory is answered only if memory is missing.
     pub fn wants(&self, alloc: Global) -> Result<Regs, NoMemory>
         ensures { IfOk result (λ regs. regs ≡ wants_of (plan_of self.now)) }
     {
@@ -93,18 +93,18 @@ impl Helm {
 
     // Those of the modes and of the behaviours too.
     fn want_all(&self, alloc: Global, wanted: &mut Wanted) -> Result<(), NoMemory>
-        ensures { OnOk result (wanted.new ≡ fold with_wanted wanted.old (flat_map decl_names self.now.modes ++ flat_map block_names self.now.crew.blocks)) }
+        ensures { OnOk result (wanted.new ≡ fold with_wanted wanted.old (flat_map decl_names self.now.modes ++ flat_map block_names self.now.behavior_list.blocks)) }
     {
         for decl in self.modes.decls() {
             wanted.want_decl(alloc, decl)?;
         }
-        for block in self.crew.blocks() {
+        for block in self.behavior_list.blocks() {
             wanted.want_block(alloc, block)?;
         }
         Ok(())
     }
 
-    /// The pairs that the helm posts before its first iteration. NoMemory is answered only where memory is missing.
+    /// The pairs that the helm posts before its first iteration. NoMemory is answered only if memory is missing.
     pub fn opening(&self, alloc: Global) -> Result<Batch, NoMemory>
         ensures { IfOk result (λ pairs. pairs ≡ (plan_of self.now).opening) }
     {
@@ -113,7 +113,7 @@ impl Helm {
 
     /// One iteration at a stamp, in milliseconds, that isn't before the last one's: the helm learns the mail, sees whether
     /// it is parked, finds its mode, updates its behaviours, steps those that run, decides by the functions of the active
-    /// ones, and lists what it posts. It has 1 to 16 workers for what it solves. Where no memory is left the helm is as it
+    /// ones, and lists what it posts. It has 1 to 16 workers for what it solves. If no memory is left the helm is as it
     /// was.
     pub fn tick<R: Threads + Wait + Sync, G: Gate>(
         &mut self,
@@ -130,7 +130,7 @@ impl Helm {
         ensures same { OnErr result (self.new ≡ self.old) }
         ensures ticked { IfOk result (IsTicked self.old self.new stamp mail.now) }
     {
-        let fresh = self.outlook_after(alloc, mail.all())?;
+        let fresh = self.helm_view_after(alloc, mail.all())?;
         let now = self.now(&fresh);
         let (iteration, kept, allstop) = self.iterate(
             rt,
@@ -145,7 +145,7 @@ impl Helm {
         Ok(iteration)
     }
 
-    // The turns of the behaviours at this outlook: the iteration that they come to, what is kept of them, and why the vehicle
+    // The turns of the behaviours at this view: the iteration that they come to, what is kept of them, and why the vehicle
     // has to stop.
     fn iterate<R: Threads + Wait + Sync, G: Gate>(
         &self,
@@ -153,69 +153,77 @@ impl Helm {
         alloc: Global,
         stamp: u64,
         letters: &[Letter],
-        now: &Outlook,
+        now: &HelmView,
         workers: u32,
         gate: &G,
     ) -> Result<(Iteration, Vec<Behavior>, Allstop), NoMemory>
         requires some_worker { 1 ≤ workers }
         requires few_workers { workers ≤ 16 }
         ensures iterated { IfOk result (λ made. IsIterationOfTurns self.now stamp (pairs_mailed letters.now) now.now made.0 made.1.items made.2) }
-        ensures few { IfOk result (λ made. AreFew self.now.crew.blocks (length made.1.items)) }
-        ensures fit { IfOk result (λ made. All (IsFitKept self.now.crew.axes self.now.crew.blocks) made.1.items) }
+        ensures few { IfOk result (λ made. AreFew self.now.behavior_list.blocks (length made.1.items)) }
+        ensures fit { IfOk result (λ made. All (IsFitKept self.now.behavior_list.axes self.now.behavior_list.blocks) made.1.items) }
     {
-        let (answers, turned) = self.crew.turned(alloc, stamp, letters, now)?;
-        let Turned { kept, showings } = turned;
-        let allstop = Allstop::of(&self.crew.domain(), now.parked, showings.as_slice());
+        let (answers, turned) = self.behavior_list.turned(alloc, stamp, letters, now)?;
+        let TurnsEnded { kept, showings } = turned;
+        let allstop = Allstop::of(
+            &self.behavior_list.domain(),
+            now.parked,
+            showings.as_slice(),
+        );
         let iteration = self.iteration(
             rt, alloc, stamp, now, answers, showings, allstop, workers, gate,
         )?;
         Ok((iteration, kept, allstop))
     }
 
-    // What the helm makes of these letters too, or None where there is none and all stays as it is.
-    fn outlook_after(&self, alloc: Global, letters: &[Letter]) -> Result<Option<Outlook>, NoMemory>
-        ensures { IfOk result (λ fresh. HasLearnt self.now.modes letters.now self.now.outlook (unwrap_or fresh self.now.outlook)) }
+    // What the helm makes of these letters too, or None if there is none and all stays as it is.
+    fn helm_view_after(
+        &self,
+        alloc: Global,
+        letters: &[Letter],
+    ) -> Result<Option<HelmView>, NoMemory>
+        ensures { IfOk result (λ fresh. HasLearnt self.now.modes letters.now self.now.helm_view (unwrap_or fresh self.now.helm_view)) }
     {
         if letters.len() == 0 {
             return Ok(None);
         }
-        let outlook = self.outlook.with(alloc, &self.modes, letters)?;
-        Ok(Some(outlook))
+        let helm_view = self.helm_view.with(alloc, &self.modes, letters)?;
+        Ok(Some(helm_view))
     }
 
-    // The outlook of this iteration.
-    fn now<'a>(&'a self, fresh: &'a Option<Outlook>) -> &'a Outlook
-        ensures { result.now ≡ unwrap_or fresh.now self.now.outlook }
+    // The view of this iteration.
+    fn now<'a>(&'a self, fresh: &'a Option<HelmView>) -> &'a HelmView
+        ensures { result.now ≡ unwrap_or fresh.now self.now.helm_view }
     {
         match fresh {
-            Some(outlook) => outlook,
-            None => &self.outlook,
+            Some(helm_view) => helm_view,
+            None => &self.helm_view,
         }
     }
 
     // Keeps what the next iteration asks of this one.
-    fn end(&mut self, stamp: u64, fresh: Option<Outlook>, kept: Vec<Behavior>, allstop: Allstop)
-        requires few { AreFew self.old.crew.blocks (length kept.items) }
-        requires fit { All (IsFitKept self.old.crew.axes self.old.crew.blocks) kept.items }
-        ensures { self.new ≡ helm_after self.old stamp (unwrap_or fresh self.old.outlook) kept.items allstop }
+    fn end(&mut self, stamp: u64, fresh: Option<HelmView>, kept: Vec<Behavior>, allstop: Allstop)
+        requires few { AreFew self.old.behavior_list.blocks (length kept.items) }
+        requires fit { All (IsFitKept self.old.behavior_list.axes self.old.behavior_list.blocks) kept.items }
+        ensures { self.new ≡ helm_after self.old stamp (unwrap_or fresh self.old.helm_view) kept.items allstop }
     {
-        self.crew.go_on(kept);
-        if let Some(outlook) = fresh {
-            self.outlook = outlook;
+        self.behavior_list.go_on(kept);
+        if let Some(helm_view) = fresh {
+            self.helm_view = helm_view;
         }
         self.allstop = Some(allstop);
         self.clock = stamp;
     }
 
-    // The iteration at this outlook, where these are the answers to letters to templates and it says this of the behaviours.
+    // The iteration at this view, if these are the answers to letters to templates and it says this of the behaviours.
     fn iteration<R: Threads + Wait + Sync, G: Gate>(
         &self,
         rt: &R,
         alloc: Global,
         stamp: u64,
-        now: &Outlook,
+        now: &HelmView,
         answers: Updates,
-        showings: Vec<Showing>,
+        showings: Vec<TurnShown>,
         allstop: Allstop,
         workers: u32,
         gate: &G,
@@ -223,20 +231,20 @@ impl Helm {
         requires some_worker { 1 ≤ workers }
         requires few_workers { workers ≤ 16 }
         requires few { length showings.items ≤ 64 }
-        requires fit { All (IsFit self.now.crew.axes) showings.items }
-        requires allstop { allstop_text allstop ≡ allstop_by self.now.crew.axes now.now.parked showings.items }
+        requires fit { All (IsFit self.now.behavior_list.axes) showings.items }
+        requires allstop { allstop_text allstop ≡ allstop_by self.now.behavior_list.axes now.now.parked showings.items }
         ensures { IfOk result (λ iteration. iteration ≡ iteration_by self.now stamp now.now answers showings.items) }
     {
         let all = showings.as_slice();
         let mode = now.mode.copy(alloc)?;
-        let (updates, states, faults) = told_of(alloc, self.crew.blocks(), answers, all)?;
+        let (updates, states, faults) = told_of(alloc, self.behavior_list.blocks(), answers, all)?;
         let mut posts = self.first_posts(alloc, now, all)?;
         let (course, speed, depth) = (
             mentions_course(all),
             mentions_speed(all),
             mentions_depth(all),
         );
-        let domain = self.crew.domain();
+        let domain = self.behavior_list.domain();
         let decision = decision_made(rt, alloc, domain, showings, workers, gate)?;
         self.add_decided(alloc, &mut posts, allstop, course, speed, depth, &decision)?;
         Ok(Iteration {
@@ -251,7 +259,7 @@ impl Helm {
         })
     }
 
-    // Adds the numbers that are decided on, where functions mention them, and the reason to stop, where it changed.
+    // Adds the numbers that are decided on, if functions mention them, and the reason to stop, if it changed.
     fn add_decided(
         &self,
         alloc: Global,
@@ -277,13 +285,13 @@ impl Helm {
     fn first_posts(
         &self,
         alloc: Global,
-        now: &Outlook,
-        showings: &[Showing],
+        now: &HelmView,
+        showings: &[TurnShown],
     ) -> Result<Batch, NoMemory>
         ensures { IfOk result (λ posts. posts ≡ first_posts self.now now.now showings.now) }
     {
-        let state = self.said(self.outlook.state());
-        let mode = self.said(self.outlook.mode.bytes());
+        let state = self.said(self.helm_view.state());
+        let mode = self.said(self.helm_view.mode.bytes());
         let mut posts = Batch::new(alloc);
         let own = &self.own;
         add_changed(alloc, &mut posts, own.state(), state, now.state())?;
@@ -294,7 +302,7 @@ impl Helm {
         Ok(posts)
     }
 
-    // A text of the last iteration, where there was one.
+    // A text of the last iteration, if there was one.
     fn said<'a>(&self, text: &'a [u8]) -> Option<&'a [u8]>
         ensures { option_copied result ≡ said_before self.now text.now }
     {
@@ -305,7 +313,7 @@ impl Helm {
         }
     }
 
-    // Why the vehicle had to stop in the last iteration, where there was one.
+    // Why the vehicle had to stop in the last iteration, if there was one.
     fn last_allstop(&self) -> Option<&[u8]>
         ensures { option_copied result ≡ option_map allstop_text self.now.allstop }
     {

@@ -80,7 +80,7 @@ pub struct Iteration {
     pub stamp: u64,
     /// Whether the vehicle is not the helm's to drive.
     pub parked: bool,
-    /// The mode's text, empty where there is no mode.
+    /// The mode's text, empty if there is no mode.
     pub mode: Txt,
     /// The updates of the behaviours, and the letters to templates.
     pub updates: Updates,
@@ -88,7 +88,7 @@ pub struct Iteration {
     pub states: States,
     /// The faults that behaviours raised.
     pub faults: Faults,
-    /// What the active behaviours decide together, with its certificate; None where none is active.
+    /// What the active behaviours decide together, with its certificate; None if none is active.
     pub decision: Option<Decision>,
     /// What the helm posts, in order.
     pub posts: Batch,

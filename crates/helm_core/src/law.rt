@@ -23,7 +23,7 @@ pub fn list_law()
 
 /// What holds of the names in the list of a helm of a valid behaviour file, whatever it hears: in each iteration at most one
 /// behaviour has a given name, so at most one that of a contact, `avd_` and the contact's name. One that a letter made and
-/// that isn't perpetual is done where it is stepped once its contact is clear for good, and leaves the list. It does nothing.
+/// that isn't perpetual is done if it is stepped once its contact is clear for good, and leaves the list. It does nothing.
 pub fn names_law()
     ensures once { ValidFilesNameOnce }
     ensures contacts { OneOfEachContact }

@@ -5,28 +5,28 @@
 //! iteration, and `tick` gives the iteration that `iteration_at` of specs/ says of that list with one mail more. After want
 //! of memory the helm is as it was.
 //!
-//! Read `iteration`, `allstop`, `outlook` for what is kept of the mails, `doer` for a behaviour by its type, `behavior` for what is kept of a behaviour, `judging`,
-//! `stepping` and `begun` for its turn, `named`, `making` and `spawning` for letters to templates, `turned` and `crew` for the turns of
+//! Read `iteration`, `allstop`, `helm_view` for what is kept of the mails, `doer` for a behaviour by its type, `behavior` for what is kept of a behaviour, `judging`,
+//! `stepping` and `begun` for its turn, `named`, `making` and `spawning` for letters to templates, `turned` and `behavior_list` for the turns of
 //! all, `showing` and `telling` for what is said of them, `decision` for what they decide, `own_names` and `posts` for what is posted,
 //! `wanted` for the variables that are registered for, and `helm` last; `law` says that no iteration depends on a later mail, which
 //! behaviours the list has and that no two have one name, that what is said is well formed, and that what is decided is the first point of greatest worth to all
-//! behaviours. Of specs/ read `Plans`, `Ticks`, `Behaviors`, `Templates`, `Lists`, `Names`, `Moments`, `Decisions`, `Posts`, `Iterations`,
+//! behaviours. Of specs/ read `Plans`, `Ticks`, `Behaviors`, `Templates`, `Lists`, `Names`, `PastIterations`, `Decisions`, `Posts`, `Iterations`,
 //! `WellFormed`, `Worths`, `FirstSteps`, `Doers`, `Standings` and `Helms`; `Kept` serves the files of the crate.
 #![tactic(auto)]
 
 mod allstop;
 mod begun;
 mod behavior;
-mod crew;
+mod behavior_list;
 mod decision;
 mod doer;
 mod helm;
+mod helm_view;
 mod iteration;
 mod judging;
 mod law;
 mod making;
 mod named;
-mod outlook;
 mod own_names;
 mod posts;
 mod showing;

@@ -5,7 +5,7 @@ ghost use Rattle.bhv_file.specs.declared.file.Block.{Block};
 ghost use Rattle.bhv_file.specs.declared.spec.Spec.{Spec};
 ghost use Rattle.bhv_file.specs.declared.common.Common.{Common};
 ghost use Rattle.helm_core.specs.Doers.{IsDoerOf};
-ghost use Rattle.bhv_kinds.specs.Turns.{KindTurn, params_at};
+ghost use Rattle.bhv_kinds.specs.Changes.{KindChange, params_at};
 ghost use Rattle.bhv_life.specs.Standing.{IsLifeOf};
 ghost use Rattle.helm_core.specs.Plans.{is_template};
 ghost use Rattle.helm_core.specs.Standings.{AreFew, HasSpawned, HasAnswered, IsKept, MaySpawn, is_kept_called};
@@ -71,7 +71,7 @@ fn hear_named(
     }
 }
 
-// Where the behaviour of this name stands in the list.
+// Where the behaviour of this name is in the list.
 fn place_of(kept: &[Behavior], name: &[u8]) -> Option<usize>
     ensures { result ≡ position (is_kept_called name.now) kept.now }
 {
@@ -155,15 +155,15 @@ fn made(name: Name, block: usize, doer: BoxedDoer) -> Behavior
     }
 }
 
-// Takes pairs, where there are some. False exactly where they aren't good as a whole.
+// Takes pairs, if there are some. False exactly if they aren't good as a whole.
 fn take_pairs(
     alloc: Global,
     domain: &Domain,
     doer: &mut Doer,
     pairs: &Option<Txt>,
 ) -> Result<bool, NoMemory>
-    ensures good { IfOk result (λ good. (spec : Spec) (turns : List KindTurn) → IsDoerOf spec turns doer.old → good ≡ are_good domain.now (params_at spec turns) pairs.now) }
-    ensures stands { IfOk result (λ _. (spec : Spec) (turns : List KindTurn) → IsDoerOf spec turns doer.old → IsDoerOf spec (with_said domain.now turns pairs.now) doer.new) }
+    ensures good { IfOk result (λ good. (spec : Spec) (changes : List KindChange) → IsDoerOf spec changes doer.old → good ≡ are_good domain.now (params_at spec changes) pairs.now) }
+    ensures stands { IfOk result (λ _. (spec : Spec) (changes : List KindChange) → IsDoerOf spec changes doer.old → IsDoerOf spec (with_said domain.now changes pairs.now) doer.new) }
 {
     match pairs {
         Some(pairs) => {

@@ -9,14 +9,14 @@ use moos_post::{Name, NameFault, NoMemory, Txt, Value};
 use moos_text::{cut_at_equals, is_named};
 use std::alloc::{AllocError, Global};
 
-// The name that a letter to a template begins with, and the pairs behind it, where there are some.
+// The name that a letter to a template begins with, and the pairs behind it, if there are some.
 #[derive(Drop)]
 pub(crate) struct NamedPairs {
     pub name: Name,
     pub pairs: Option<Txt>,
 }
 
-// What a value says to a template, or None where it says nothing.
+// What a value says to a template, or None if it says nothing.
 pub(crate) fn said_by(alloc: Global, value: &Value) -> Result<Option<NamedPairs>, NoMemory>
     ensures { IfOk result (λ said. said ≡ said_by value.now) }
 {
@@ -26,7 +26,7 @@ pub(crate) fn said_by(alloc: Global, value: &Value) -> Result<Option<NamedPairs>
     }
 }
 
-// What a text says to one: its first part is `name=N`, and what stands behind it are pairs.
+// What a text says to one: its first part is `name=N`, and what follows it are pairs.
 fn named_pairs(alloc: Global, text: &[u8]) -> Result<Option<NamedPairs>, NoMemory>
     requires { IsTrue (is_text text.now) }
     ensures { IfOk result (λ said. said ≡ named_pairs text.now) }
@@ -40,7 +40,7 @@ fn named_pairs(alloc: Global, text: &[u8]) -> Result<Option<NamedPairs>, NoMemor
     }
 }
 
-// What stands before the first `#`.
+// What is before the first `#`.
 fn first_part(text: &[u8]) -> &[u8]
     ensures { result.now ≡ before_first is_hash text.now }
 {
@@ -79,7 +79,7 @@ fn name_said(alloc: Global, key: &[u8], value: &[u8]) -> Result<Option<Name>, No
     }
 }
 
-// The pairs behind the first `#`, where there is one.
+// The pairs behind the first `#`, if there is one.
 fn pairs_behind(alloc: Global, text: &[u8]) -> Result<Option<Txt>, NoMemory>
     requires { IsTrue (is_text text.now) }
     ensures { IfOk result (λ pairs. pairs ≡ behind_hash text.now) }

@@ -41,7 +41,7 @@ pub(crate) fn name_of(alloc: Global, bytes: &[u8]) -> Result<Name, NoMemory>
 }
 
 impl OwnNames {
-    // Them on the heap, so that a helm is moved without them.
+    // The names on the heap, so that moving a helm doesn't move them.
     pub fn boxed(alloc: Global) -> Result<Box<OwnNames>, NoMemory> {
         let own = OwnNames::make(alloc)?;
         Ok(Box::new(alloc, own)?)

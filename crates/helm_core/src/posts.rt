@@ -6,7 +6,7 @@ ghost use Rattle.helm_core.specs.Posts.{changed, number_pair, text_pair};
 use moos_post::{Batch, Copied, Milli, Name, NoMemory, Pair, Txt, Value};
 use std::alloc::{AllocError, Global};
 
-// Adds the text where none was before, and where it isn't the one before.
+// Adds the text if none was before, and if it isn't the one before.
 pub(crate) fn add_changed(
     alloc: Global,
     posts: &mut Batch,

@@ -5,7 +5,7 @@ use moos_post::{Batch, List, Name};
 
 // What an iteration says of a behaviour.
 #[derive(Drop)]
-pub(crate) struct Showing {
+pub(crate) struct TurnShown {
     pub name: Name,
     // Of each of its updates, in order, whether it was good.
     pub taken: List<bool>,

@@ -64,7 +64,7 @@ pub(crate) fn spawn_all(
     Ok(())
 }
 
-// The letters to the block at this place, where it is a template.
+// The letters to the block at this place, if it is a template.
 fn hear_by(
     alloc: Global,
     domain: &Domain,
@@ -113,7 +113,7 @@ fn hear_all(
     Ok(())
 }
 
-// A letter, which is one to the template where it is of its variable.
+// A letter, which is one to the template if it is of its variable.
 fn hear(
     alloc: Global,
     domain: &Domain,

@@ -8,17 +8,17 @@ ghost use Rattle.helm_core.specs.Posts.{flags_raised};
 
 use crate::iteration::{BhvError, BhvNow, Faults, How, States, Update, Updates};
 use crate::posts::add_pairs;
-use crate::showing::Showing;
+use crate::showing::TurnShown;
 use bhv_file::Block;
 use moos_post::{Batch, Copied, Name, NoMemory};
 use std::alloc::Global;
 
-// The updates, the states and the faults of all behaviours, where these are the answers to letters to templates.
+// The updates, the states and the faults of all behaviours, if these are the answers to letters to templates.
 pub(crate) fn told_of(
     alloc: Global,
     blocks: &[Block],
     answers: Updates,
-    showings: &[Showing],
+    showings: &[TurnShown],
 ) -> Result<(Updates, States, Faults), NoMemory>
     ensures updates { IfOk result (λ told. told.0 ≡ all_updates blocks.now answers showings.now) }
     ensures states { IfOk result (λ told. told.1 ≡ all_states showings.now) }
@@ -35,7 +35,7 @@ fn updates_of(
     alloc: Global,
     blocks: &[Block],
     answers: Updates,
-    showings: &[Showing],
+    showings: &[TurnShown],
 ) -> Result<Updates, NoMemory>
     ensures { IfOk result (λ updates. updates ≡ all_updates blocks.now answers showings.now) }
 {
@@ -56,7 +56,11 @@ fn in_file_order(alloc: Global, blocks: &[Block], heard: &[Update]) -> Result<Up
 }
 
 // The answers to letters to templates, and then the updates of the behaviours.
-fn heard_by_all(alloc: Global, answers: Updates, showings: &[Showing]) -> Result<Updates, NoMemory>
+fn heard_by_all(
+    alloc: Global,
+    answers: Updates,
+    showings: &[TurnShown],
+) -> Result<Updates, NoMemory>
     ensures { IfOk result (λ heard. heard ≡ answers ++ flat_map updates_of showings.now) }
 {
     let mut heard = answers;
@@ -82,7 +86,7 @@ fn add_heard(
     Ok(())
 }
 
-// Adds an update, where it is of the behaviour or the template that is told of.
+// Adds an update, if it is of the behaviour or the template that is told of.
 fn add_own(
     alloc: Global,
     updates: &mut Updates,
@@ -121,7 +125,7 @@ fn how_taken(taken: bool) -> How
 }
 
 // What each behaviour is.
-fn states_of(alloc: Global, showings: &[Showing]) -> Result<States, NoMemory>
+fn states_of(alloc: Global, showings: &[TurnShown]) -> Result<States, NoMemory>
     ensures { IfOk result (λ states. states ≡ all_states showings.now) }
 {
     let mut states = States::new(alloc);
@@ -131,7 +135,7 @@ fn states_of(alloc: Global, showings: &[Showing]) -> Result<States, NoMemory>
     Ok(states)
 }
 
-fn state_of(alloc: Global, showing: &Showing) -> Result<BhvNow, NoMemory>
+fn state_of(alloc: Global, showing: &TurnShown) -> Result<BhvNow, NoMemory>
     ensures { IfOk result (λ state. state ≡ state_of showing.now) }
 {
     let name = showing.name.copy(alloc)?;
@@ -142,7 +146,7 @@ fn state_of(alloc: Global, showing: &Showing) -> Result<BhvNow, NoMemory>
 }
 
 // The faults that behaviours raised, in the order of the list.
-fn faults_of(alloc: Global, showings: &[Showing]) -> Result<Faults, NoMemory>
+fn faults_of(alloc: Global, showings: &[TurnShown]) -> Result<Faults, NoMemory>
     ensures { IfOk result (λ faults. faults ≡ all_faults showings.now) }
 {
     let mut faults = Faults::new(alloc);
@@ -152,7 +156,7 @@ fn faults_of(alloc: Global, showings: &[Showing]) -> Result<Faults, NoMemory>
     Ok(faults)
 }
 
-fn add_fault(alloc: Global, faults: &mut Faults, showing: &Showing) -> Result<(), NoMemory>
+fn add_fault(alloc: Global, faults: &mut Faults, showing: &TurnShown) -> Result<(), NoMemory>
     ensures { OnOk result (faults.new ≡ faults.old ++ option_to_list (fault_of showing.now)) }
 {
     let Some(fault) = showing.out.fault else {
@@ -166,7 +170,7 @@ fn add_fault(alloc: Global, faults: &mut Faults, showing: &Showing) -> Result<()
 pub(crate) fn add_flags(
     alloc: Global,
     posts: &mut Batch,
-    showings: &[Showing],
+    showings: &[TurnShown],
 ) -> Result<(), NoMemory>
     ensures { OnOk result (posts.new ≡ posts.old ++ flags_raised showings.now) }
 {

@@ -3,27 +3,27 @@ ghost use Rattle.std.specs.Prelude.{◌≡◌, ◌++◌, ◌∷◌, [], List, le
 ghost use Rattle.bhv_file.specs.declared.file.Block.{Block};
 ghost use Rattle.std.specs.List.{All, AllZip, list_any};
 ghost use Rattle.ivp_domain.specs.declared.axis.Axis.{Axis};
-ghost use Rattle.helm_core.specs.Behaviors.{BegunTurn};
+ghost use Rattle.helm_core.specs.Behaviors.{TurnSoFar};
 ghost use Rattle.helm_core.specs.Kept.{IsTurned, IsTurnedWith, AreFit};
 ghost use Rattle.helm_core.specs.Standings.{IsBegun, IsFitBegun, raised_fault};
 ghost use Rattle.helm_core.specs.Ticks.{Seen};
 
-use crate::begun::Begun;
+use crate::begun::TurnBegun;
 use crate::behavior::Behavior;
-use crate::showing::Showing;
+use crate::showing::TurnShown;
 use moos_post::NoMemory;
 use std::alloc::Global;
 
 // What the helm keeps of the behaviours that stay in the list, and what the iteration says of each of the list, in its order.
 #[derive(Drop)]
-pub(crate) struct Turned {
+pub(crate) struct TurnsEnded {
     pub kept: Vec<Behavior>,
-    pub showings: Vec<Showing>,
+    pub showings: Vec<TurnShown>,
 }
 
-// Ends the turns: none is active where a behaviour raised a fault.
-pub(crate) fn finish_all(alloc: Global, begun: Vec<Begun<'_>>) -> Result<Turned, NoMemory>
-    ensures turned { IfOk result (λ turned. (blocks : List Block) (seen : Seen) (ones : List BegunTurn) → AllZip (IsBegun blocks seen) ones begun.entry.items → IsTurned blocks seen ones turned) }
+// Ends the turns: none is active if a behaviour raised a fault.
+pub(crate) fn finish_all(alloc: Global, begun: Vec<TurnBegun<'_>>) -> Result<TurnsEnded, NoMemory>
+    ensures turned { IfOk result (λ turned. (blocks : List Block) (seen : Seen) (ones : List TurnSoFar) → AllZip (IsBegun blocks seen) ones begun.entry.items → IsTurned blocks seen ones turned) }
     ensures fit { IfOk result (λ turned. (axes : List Axis) (blocks : List Block) → All (IsFitBegun axes blocks) begun.entry.items → AreFit axes blocks (length begun.entry.items) turned) }
 {
     let fault = some_fault(&begun);
@@ -31,15 +31,19 @@ pub(crate) fn finish_all(alloc: Global, begun: Vec<Begun<'_>>) -> Result<Turned,
 }
 
 // Whether a step raised a fault.
-fn some_fault(begun: &[Begun<'_>]) -> bool
+fn some_fault(begun: &[TurnBegun<'_>]) -> bool
     ensures { result ≡ list_any raised_fault begun.now }
 {
     begun.iter().any(|one| one.has_fault())
 }
 
 // Ends the turns, by whether any behaviour raised a fault.
-fn finish_each(alloc: Global, begun: Vec<Begun<'_>>, fault: bool) -> Result<Turned, NoMemory>
-    ensures turned { IfOk result (λ turned. (blocks : List Block) (seen : Seen) (ones : List BegunTurn) → AllZip (IsBegun blocks seen) ones begun.entry.items → IsTurnedWith blocks fault seen ones turned) }
+fn finish_each(
+    alloc: Global,
+    begun: Vec<TurnBegun<'_>>,
+    fault: bool,
+) -> Result<TurnsEnded, NoMemory>
+    ensures turned { IfOk result (λ turned. (blocks : List Block) (seen : Seen) (ones : List TurnSoFar) → AllZip (IsBegun blocks seen) ones begun.entry.items → IsTurnedWith blocks fault seen ones turned) }
     ensures fit { IfOk result (λ turned. (axes : List Axis) (blocks : List Block) → All (IsFitBegun axes blocks) begun.entry.items → AreFit axes blocks (length begun.entry.items) turned) }
 {
     let mut kept = Vec::with_capacity(alloc, begun.len())?;
@@ -49,10 +53,10 @@ fn finish_each(alloc: Global, begun: Vec<Begun<'_>>, fault: bool) -> Result<Turn
         keep(&mut kept, ended.kept, ended.stays)?;
         showings.push(ended.showing)?;
     }
-    Ok(Turned { kept, showings })
+    Ok(TurnsEnded { kept, showings })
 }
 
-// Keeps a behaviour, where it stays in the list.
+// Keeps a behaviour, if it stays in the list.
 fn keep(kept: &mut Vec<Behavior>, one: Behavior, stays: bool) -> Result<(), NoMemory>
     ensures { OnOk result (kept.new.items ≡ kept.old.items ++ (if stays then one ∷ [] else [])) }
 {

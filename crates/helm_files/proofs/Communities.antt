@@ -13,13 +13,13 @@ use Rattle.helm_core.specs.Ticks.{Tick}
 use Rattle.helm_core.specs.WellFormed.{IsWellFormedPlan, names_told, ValidFilesPlanWell}
 use Rattle.helm_core.specs.Worths.{DecidesByWorth, ValidFilesDecideByWorth}
 use Rattle.helm_files.specs.declared.loading.HelmFiles.{HelmFiles}
-use Rattle.helm_files.specs.HelmFiles.{setup_of, steering_by}
+use Rattle.helm_files.specs.HelmFiles.{setup_of, helm_setup_by}
 use Rattle.helm_files.specs.Loading.{AreValidFiles}
 use Rattle.ivp_cert.specs.declared.claim.Decision.{Decision}
 use Rattle.ivp_domain.specs.AxisNames.{is_axis_name}
 use Rattle.ivp_domain.specs.declared.axis.Axis.{Axis}
 use Rattle.mission_reader.specs.Validity.{HaveAxisNames}
-use Rattle.moos_play.specs.Lawful.{iterations, iterations_of, names_with, Steering, ticks_to}
+use Rattle.moos_play.specs.Lawful.{iterations, iterations_of, names_with, HelmSetup, ticks_to}
 use Rattle.moos_post.specs.Words.{is_name}
 use Rattle.moos_report.proofs.Communities.{apart_behind, AreApart, clients_apart, none_is_helms}
 use Rattle.moos_report.proofs.OnLines.{axis_line, name_line, text_line}
@@ -42,8 +42,8 @@ good_files files formed worth valid = record {
 }
 
 -- how the helm is run, where there is one
-abbrev pub steered : Script → Option HelmFiles → Option Steering
-steered script helm = option_map (steering_by script) helm
+abbrev pub steered : Script → Option HelmFiles → Option HelmSetup
+steered script helm = option_map (helm_setup_by script) helm
 
 -- ---- names
 
@@ -96,7 +96,7 @@ stand_on_lines script None heard files = record {
 }
 stand_on_lines script (Some helm) heard files =
     let plan = plan_made helm.mission helm.file in
-    let count : ℕ = ticks_to script.stop (steering_by script helm) in
+    let count : ℕ = ticks_to script.stop (helm_setup_by script helm) in
     record {
       unused = All-weaker (λ (unused : Unused). IsTrue (is_name unused.name)) (λ (unused : Unused). IsTrue (is_one_line unused.name)) (λ unused. name_line unused.name) helm.file.unused files.file.unused;
       modes = each_iteration (λ (iteration : Iteration). IsTrue (is_one_line iteration.mode)) plan heard count (λ i. text_line (iteration_at plan heard i).mode (files.formed.iterations heard i).mode);

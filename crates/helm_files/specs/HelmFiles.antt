@@ -4,7 +4,7 @@ use Rattle.helm_core.specs.Plans.{plan_made}
 use Rattle.helm_core.specs.Posts.{are_declared_modes}
 use Rattle.helm_files.specs.declared.loading.HelmFiles.{HelmFiles}
 use Rattle.mission_reader.specs.declared.mission.Mission.{Mission}
-use Rattle.moos_play.specs.Lawful.{Steering, helm_number}
+use Rattle.moos_play.specs.Lawful.{HelmSetup, helm_number}
 use Rattle.moos_report.specs.declared.setup.Setup.{Setup}
 use Rattle.moos_report.specs.Setups.{no_modes}
 use Rattle.moos_text.specs.declared.cause.Cause.TheVariants.{M8}
@@ -17,10 +17,10 @@ abbrev pub with_few_ticks : Script → Mission → Result Mission ReadFault
 with_few_ticks script mission = if nat_le (script.stop / mission.period + 1) 20000 then Ok mission else Err (At mission.lines M8)
 
 -- how the helm of these files is run beside a script's clients
-abbrev pub steering_by : Script → HelmFiles → Steering
-steering_by script files = record { client = helm_number script; plan = plan_made files.mission files.file; period = files.mission.period }
+abbrev pub helm_setup_by : Script → HelmFiles → HelmSetup
+helm_setup_by script files = record { client = helm_number script; plan = plan_made files.mission files.file; period = files.mission.period }
 
--- what a report tells of the behaviour file: its unused parameters, and that its modes are told where it declares any
+-- what a report tells of the behaviour file: its unused parameters, and that its modes are told if it declares any
 abbrev pub setup_of : Option HelmFiles → Setup
 setup_of None = no_modes
 setup_of (Some files) = record { unused = files.file.unused; modes = are_declared_modes files.file.decls }

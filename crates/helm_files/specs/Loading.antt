@@ -34,7 +34,7 @@ helm_alone files more = Ready files
 abbrev pub nothing_written : Outcomes HelmFiles
 nothing_written = record { MayWrite = λ files status text. ⊥; IsWrittenAsItComes = λ files. ⊥ }
 
--- these stand in the bytes that the folder tells, where it does: a mission under this name, and the behaviour file that it names
+-- these are in the bytes that the folder tells, if it does: a mission under this name, and the behaviour file that it names
 pub record WereLoaded (told : Option (List ℕ → Option (List ℕ))) (script : Script) (name : List ℕ) (files : HelmFiles) : Type 0 where
   pub mission : List ℕ
   pub mission_told : HasBytes told name mission

@@ -1,10 +1,10 @@
 // The files of a helm, one after another, and the helm that is made of them.
 ghost use Rattle.std.specs.Prelude.{◌≡◌, ◌≤◌, ℕ, [], List, Option, Some, IfErr, IfOk};
 ghost use Rattle.command_line.specs.Endings.{EndsFrom, sinking, surroundings};
-ghost use Rattle.helm_files.specs.HelmFiles.{setup_of, steering_by};
+ghost use Rattle.helm_files.specs.HelmFiles.{setup_of, helm_setup_by};
 ghost use Rattle.helm_files.specs.Loading.{AreValidFiles, helm_alone, helm_turn, nothing_written, WereLoaded};
 ghost use Rattle.moos_io.specs.Faults.{Faring};
-ghost use Rattle.moos_play.specs.Lawful.{MayStart, steering_with};
+ghost use Rattle.moos_play.specs.Lawful.{MayStart, helm_setup_with};
 ghost use Rattle.script_reader.specs.declared.script.Script.{Script};
 ghost use Rattle.script_reader.specs.Validity.{IsValid};
 
@@ -71,11 +71,11 @@ pub fn load_helm<F: Folder>(
     }
 }
 
-/// The helm of these files, which has heard nothing. NoMemory is answered only where memory is missing.
+/// The helm of these files, which has heard nothing. NoMemory is answered only if memory is missing.
 pub fn fit_helm(alloc: Global, files: HelmFiles) -> Result<FittedHelm, NoMemory>
     requires { AreValidFiles files }
     ensures setup { IfOk result (λ fitted. fitted.setup ≡ setup_of (Some files)) }
-    ensures steers { IfOk result (λ fitted. (script : Script) → steering_with script fitted.run ≡ steering_by script files) }
+    ensures steers { IfOk result (λ fitted. (script : Script) → helm_setup_with script fitted.run ≡ helm_setup_by script files) }
     ensures may { IfOk result (λ fitted. MayStart fitted.run) }
     ensures slowest { IfOk result (λ fitted. fitted.run.period ≤ 1000000) }
 {

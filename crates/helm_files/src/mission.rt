@@ -15,7 +15,7 @@ use std::alloc::Global;
 const MOST_TICKS: u64 = 20_000;
 
 /// Reads a mission for a script, during which its helm may not have too many iterations: those are refused at the mission's last
-/// line, where it has no other refusal.
+/// line, if it has no other refusal.
 pub(crate) fn read_for(alloc: Global, script: &Script, bytes: &[u8]) -> Result<Mission, ReadFault>
     requires short { length bytes.now < 2 ^ 32 }
     requires valid { IsValid script.now }

@@ -35,6 +35,6 @@ farthest dx dy (suc count) =
     let best = farthest dx dy count in
     if int_lt (along dx dy best) (along dx dy count) then count else best
 
--- The bearing of a step: the least degree along which it leads farthest; none where it leads nowhere.
+-- The bearing of a step: the least degree along which it leads farthest; none if it leads nowhere.
 abbrev pub bearing : ℤ → ℤ → Option ℕ
 bearing dx dy = if int_eq dx (pos 0) && int_eq dy (pos 0) then None else Some (farthest dx dy 360)

@@ -70,7 +70,7 @@ fn along(dx: i64, dy: i64, degree: u16) -> i64
     part(dx, sin4(degree)) + part(dy, cos4(degree))
 }
 
-/// That one of two degrees along which a step leads farther, the first where it leads as far along both.
+/// That one of two degrees along which a step leads farther, the first if it leads as far along both.
 fn farther(dx: i64, dy: i64, best: u16, degree: u16) -> u16
     requires best { best < 360 }
     requires degree { degree < 360 }
@@ -161,7 +161,7 @@ fn turning(across: i64, ahead: i64) -> u16
 }
 
 /// The bearing of a step of `dx` east and `dy` north, in whole degrees clockwise from north: the least degree along which
-/// it leads farthest. `None` exactly where the step leads nowhere.
+/// it leads farthest. `None` exactly if the step leads nowhere.
 pub fn bearing(dx: i64, dy: i64) -> Option<u16>
     requires low_x { neg_ℤ (pos (2 * 10 ^ 12)) ≤ℤ dx }
     requires high_x { dx ≤ℤ pos (2 * 10 ^ 12) }

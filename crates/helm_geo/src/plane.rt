@@ -4,7 +4,7 @@ ghost use Rattle.helm_geo.specs.Plane.{distance_squared, is_left_of, is_spot, is
 
 use crate::spot::Spot;
 
-/// How far east of `a` a spot lies, in thousandths; below 0 where it lies west.
+/// How far east of `a` a spot lies, in thousandths; below 0 if it lies west.
 pub fn east_of(a: &Spot, p: &Spot) -> i64
     requires a { IsTrue (is_spot a.now) }
     requires p { IsTrue (is_spot p.now) }
@@ -15,7 +15,7 @@ pub fn east_of(a: &Spot, p: &Spot) -> i64
     p.x - a.x
 }
 
-/// How far north of `a` a spot lies, in thousandths; below 0 where it lies south.
+/// How far north of `a` a spot lies, in thousandths; below 0 if it lies south.
 pub fn north_of(a: &Spot, p: &Spot) -> i64
     requires a { IsTrue (is_spot a.now) }
     requires p { IsTrue (is_spot p.now) }

@@ -3,7 +3,7 @@ use Rattle.std.proofs.Common.{◌≡◌, ℕ, ◌+◌, ◌≤◌, ◌<◌, List,
 use Rattle.std.specs.Prelude.{codes, option_map}
 use Rattle.moos_play.specs.declared.playing.Play.{Play}
 use Rattle.moos_play.specs.declared.run.HelmRun.{HelmRun}
-use Rattle.moos_play.specs.Lawful.{known_clients, names_with, steering_with}
+use Rattle.moos_play.specs.Lawful.{known_clients, names_with, helm_setup_with}
 use Rattle.moos_play.specs.Plays.{clients_in, GoesOnWith, helm_in, IsFurther, script_played}
 use Rattle.script_reader.specs.declared.script.Script.{Script}
 
@@ -19,9 +19,9 @@ further_on before after client on so = record {
 }
 
 -- behind one client of a script and a helm the next one is
-pub further_third : (script : Script) (run : HelmRun) (further : List (List ℕ)) (play : Play) → length script.names ≡ 1 → length further ≡ 1 → script_played play ≡ script → helm_in play ≡ option_map (steering_with script) (Some run)
+pub further_third : (script : Script) (run : HelmRun) (further : List (List ℕ)) (play : Play) → length script.names ≡ 1 → length further ≡ 1 → script_played play ≡ script → helm_in play ≡ option_map (helm_setup_with script) (Some run)
     → clients_in play ≡ names_with script (Some run) ++ further → IsFurther play 2
 further_third script run further play one more script_is helm_is names_is = record {
-  past = subst (λ number. number ≤ 2) (λ i. known_clients (sym script_is i) (sym helm_is i)) (omega (arith, helm_more script (steering_with script run), one));
+  past = subst (λ number. number ≤ 2) (λ i. known_clients (sym script_is i) (sym helm_is i)) (omega (arith, helm_more script (helm_setup_with script run), one));
   named = omega (arith, ap length names_is, length-append (names_with script (Some run)) further, helm_more script run, one, more);
 }

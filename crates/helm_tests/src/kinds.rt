@@ -16,7 +16,7 @@ use std::marker::Brand;
 use std::process::Abort;
 use std::sync::ledger::{Blank, Ledger};
 
-// A behaviour that keeps the station where it is first stepped.
+// A behaviour that keeps the station if it is first stepped.
 #[tactic(auto, using(bhv_kinds::proofs::KindExamples::station_valid))]
 pub(crate) fn station() -> Kind {
     Kind::make(Spec {
@@ -111,7 +111,7 @@ fn counted<L: Ledger>(func: &Func, point: &Point, blank: Blank) -> i64
     func.value_at(point, &mut steps)
 }
 
-/// The value at the point of an index, where the domain has it.
+/// The value at the point of an index, if the domain has it.
 pub(crate) fn value(func: &Func, index: u32) -> Option<i64> {
     let domain = func.domain();
     if index < domain.points() {
@@ -122,7 +122,7 @@ pub(crate) fn value(func: &Func, index: u32) -> Option<i64> {
     }
 }
 
-// A behaviour of each type, with the parameters that it has by itself where only one is given.
+// A behaviour of each type, with the parameters that it has by itself if only one is given.
 #[tactic(auto, using(bhv_kinds::proofs::KindExamples::course_valid))]
 fn course() -> Kind {
     Kind::make(Spec {
@@ -193,7 +193,7 @@ fn region() -> Kind {
     })
 }
 
-// What is known of the ship: its place, where it is given, and its depth.
+// What is known of the vehicle: its place, if it is given, and its depth.
 pub(crate) fn known(rt: &impl Abort, alloc: Global, place: Option<(i64, i64)>, depth: i64) -> Info {
     let mut info = Info::make(alloc);
     learn(rt, alloc, &mut info, "NAV_DEPTH", depth);
@@ -330,7 +330,7 @@ const HERE: Option<(i64, i64)> = Some((10_000, 5_000));
 
 const OUTSIDE: Option<(i64, i64)> = Some((10_001, 5_000));
 
-// Where the ship is, how deep and when, and what is wrong then.
+// Where the vehicle is, how deep and when, and what is wrong then.
 const FAULTS: [(Option<(i64, i64)>, i64, u64, Option<BhvFault>); 5] = [
     (HERE, 20_000, 64_999, None),
     (None, 21_000, 65_000, Some(BhvFault::NoPosition)),

@@ -1,7 +1,7 @@
 //! What tests alone show of the helm at work: that behaviours, iterations, runs and reports succeed with ample memory, and give
 //! what was worked by hand; and that the clients of a run act beside each other.
 //!
-//! The tests of these crates stand here, since a crate with tests of its own is proved once more with them. One module for each
+//! The tests of these crates are here, since a crate with tests of its own is proved once more with them. One module for each
 //! subject: `kinds` of behaviours and their `travels`, the `helm`, `plays` and `reports`, and a simulated
 //! vehicle, `vehicles`. What they make of words and files is
 //! `made` in one place.

@@ -1,4 +1,4 @@
-// What tests make of words and files, where memory is left.
+// What tests make of words and files, if memory is left.
 ghost use Rattle.std.specs.Prelude.{IsTrue};
 ghost use Rattle.bhv_file.specs.Validity.{IsValidFile, serves};
 ghost use Rattle.mission_reader.specs.Validity.{IsValidMission};

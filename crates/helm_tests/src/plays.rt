@@ -63,7 +63,7 @@ impl Gate for Meeting {
     }
 }
 
-// How many entries of client 1 stand before the first of client 0.
+// How many entries of client 1 are before the first of client 0.
 fn entries_ahead(db: &Db) -> u32 {
     let mut ahead = 0u32;
     for k in 0..db.entries() {
@@ -304,7 +304,7 @@ fn drives_after_three<R: Threads + Wait + Sync + Abort>(
     assert!(rt; !round.iterations.get(0).parked);
 }
 
-// A further client's entries stand before the next round.
+// A further client's entries are before the next round.
 #[test]
 fn further_client_is_heard(rt: HostRuntime) {
     let alloc = rt.alloc();

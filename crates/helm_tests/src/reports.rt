@@ -76,7 +76,7 @@ const REPORT: &str = "%% moosdb play 1
 %% end 4 2
 ";
 
-// What the sink has of the report, where its put of this number fails, and whether the report was told whole.
+// What the sink has of the report, if its put of this number fails, and whether the report was told whole.
 fn is_reported(
     rt: &impl Abort,
     alloc: Global,
@@ -92,7 +92,7 @@ fn is_reported(
     assert_eq!(rt; sink.bytes(), REPORT.as_bytes().get(..taken).unwrap_or(b""));
 }
 
-// Head, entries and end leave in one put each, and where one of these fails those before it are out.
+// Head, entries and end leave in one put each, and if one of these fails those before it are out.
 #[test]
 fn parts_leave_in_one_put_each(rt: HostRuntime) {
     let db = community(&rt, rt.alloc());
@@ -117,7 +117,7 @@ fn part_from_an_entry_on(rt: HostRuntime) {
     assert_eq!(rt; sink.bytes(), PART.as_bytes());
 }
 
-// A law does nothing, and says what it says to whoever calls it.
+// A law is an empty function: its callers get its contract as a fact.
 #[test]
 fn laws_hold(_rt: HostRuntime) {
     report_law();

@@ -23,7 +23,7 @@ fn led(out: &Out) -> Option<(i64, i64, i64)> {
     Some((course as i64, speed as i64, value(func, best).unwrap_or(0)))
 }
 
-// The number that a word stands for, where there is one.
+// The number that a word stands for, if there is one.
 fn number(word: Option<&str>) -> Option<i64> {
     word.unwrap_or("").parse::<i64>().ok()
 }
@@ -68,7 +68,7 @@ fn is_told(
     assert!(rt; out.fault == lost(place));
 }
 
-// A step of a row: it is `fresh`, or the `last` one, with which the behaviour is done, or another; where the ship is, if that
+// A step of a row: it is `fresh`, or the `last` one, with which the behaviour is done, or another; where the vehicle is, if that
 // is known; and where it is led then, if anywhere.
 fn read(row: &str) -> (&str, Option<(i64, i64)>, Option<(i64, i64, i64)>) {
     let mut words = row.split_whitespace();

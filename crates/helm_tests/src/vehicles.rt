@@ -43,7 +43,7 @@ fn rudder_goes_the_shorter_way_round(rt: HostRuntime) {
     }
 }
 
-// With the gains 1, 2 and 3: errors one after the other, and the rudder. The integral is 5, 9 and then 10, where it is held.
+// With the gains 1, 2 and 3: errors one after the other, and the rudder. The integral is 5, 9 and then 10, if it is held.
 const ERRORS: [(i64, i64); 3] = [(5_000, 30_000), (4_000, 19_000), (3_000, 20_000)];
 
 #[test]

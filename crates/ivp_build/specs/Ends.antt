@@ -11,12 +11,12 @@ abbrev pub runs_by : ℕ → List ℕ → List Run
 runs_by low [] = []
 runs_by low (end ∷ ends) = if nat_lt low end then record { low = low; high = end - 1 } ∷ runs_by end ends else runs_by low ends
 
--- the ends of the three zones over the places from `low` to before `until`, where `low` is `away` from the crest and each
+-- the ends of the three zones over the places from `low` to before `until`, if `low` is `away` from the crest and each
 -- next place is one farther
 abbrev pub falling_ends : Slopes → ℕ → ℕ → ℕ → List ℕ
 falling_ends s low away until = min (low + (s.top + 1 - away)) until ∷ min (low + (s.top + s.foot + 1 - away)) until ∷ until ∷ []
 
--- the ends over such places where `until` is `away` from the crest and each place before is one farther
+-- the ends over such places if `until` is `away` from the crest and each place before is one farther
 abbrev pub rising_ends : Slopes → ℕ → ℕ → ℕ → List ℕ
 rising_ends s low away until = max (until - (s.top + s.foot - away)) low ∷ max (until - (s.top - away)) low ∷ until ∷ []
 

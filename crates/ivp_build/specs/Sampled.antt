@@ -59,7 +59,7 @@ low_corner area = record { at = area.low }
 abbrev pub high_end : BoxN → ℕ → Point
 high_end area axis = record { at = slice_set area.low axis (slice_index area.high axis) }
 
--- the change from the low corner to the high end on an axis, by place, toward zero; 0 where the box has one place there
+-- the change from the low corner to the high end on an axis, by place, toward zero; 0 if the box has one place there
 abbrev pub sampled_slope : (Point → ℤ) → BoxN → ℕ → ℤ
 sampled_slope utility area axis =
     let places = slice_index area.high axis - slice_index area.low axis in
@@ -81,7 +81,7 @@ grown_at area value slopes point =
 abbrev pub stays_in_range : BoxN → ℤ → List ℤ → Bool
 stays_in_range area value slopes = list_all (λ point. is_value (grown_at area value slopes point)) (points_in area)
 
--- the value on a box: even growth where that stays in range, and else that at the low corner
+-- the value on a box: even growth if that stays in range, and else that at the low corner
 abbrev pub sampled_at : (Point → ℤ) → BoxN → Point → ℤ
 sampled_at utility area point =
     let value = utility (low_corner area) in
@@ -98,7 +98,7 @@ base_at area value slopes =
     let rise = λ (axis : ℕ). slice_index_or slopes axis (pos 0) *ℤ pos (slice_index area.low axis) in
     value -ℤ (rise 0 +ℤ rise 1 +ℤ rise 2 +ℤ rise 3)
 
--- the piece that grows evenly where that stays in range, and else is constant
+-- the piece that grows evenly if that stays in range, and else is constant
 abbrev pub piece_from : BoxN → ℤ → List ℤ → Piece
 piece_from area value slopes =
     if stays_in_range area value slopes then record { area = area; base = base_at area value slopes; slope = slopes }
@@ -112,7 +112,7 @@ sampled_piece utility area = piece_from area (utility (low_corner area)) (sample
 abbrev pub uniform_pieces : List Axis → ℕ → (Point → ℤ) → List Piece
 uniform_pieces axes size utility = map (sampled_piece utility) (boxes_of axes size)
 
--- a box with a value and slopes that are small, and no slope where it has one place
+-- a box with a value and slopes that are small, and no slope if it has one place
 pub record IsSample (area : BoxN) (value : ℤ) (slopes : List ℤ) : Type 0 where
   pub proper : IsTrue (is_box area)
   pub few : (axis : ℕ) → axis < 4 → slice_index area.high axis < 2 ^ 28

@@ -24,7 +24,7 @@ sum_of_pieces p q area =
       slope = (slope_on 0 p +ℤ slope_on 0 q) ∷ (slope_on 1 p +ℤ slope_on 1 q) ∷ (slope_on 2 p +ℤ slope_on 2 q) ∷ (slope_on 3 p +ℤ slope_on 3 q) ∷ [];
     }
 
--- the sum of two pieces on what their boxes have in common, where that is anything
+-- the sum of two pieces on what their boxes have in common, if that is anything
 abbrev pub met_sum : Piece → Piece → Option Piece
 met_sum p q = option_map (sum_of_pieces p q) (meet_of p.area q.area)
 
@@ -48,6 +48,6 @@ slope_apart ps qs = (is_level_on 0 ps || is_level_on 0 qs) && (is_level_on 1 ps 
 abbrev pub HaveRoom : List Axis → List Piece → List Piece → Type 0
 HaveRoom axes ps qs = (point : Point) → IsTrue (is_point axes point) → couple_at (value_at ps) (value_at qs) point ≤ℤ pos 100000
 
--- they are where the greatest values of both are
+-- they are if the greatest values of both are
 abbrev pub TopsLeaveRoom : Type 0
 TopsLeaveRoom = (axes : List Axis) (ps qs : List Piece) (top other : ℤ) → IsTop axes ps top → IsTop axes qs other → (top +ℤ other) ≤ℤ pos 100000 → HaveRoom axes ps qs

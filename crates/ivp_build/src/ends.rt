@@ -7,7 +7,7 @@ use crate::crest::Crest;
 use crate::profile::Profile;
 use crate::slopes::Slopes;
 
-/// The ends of the three zones over the places from `low` to before `until`, where `low` is
+/// The ends of the three zones over the places from `low` to before `until`, if `low` is
 /// `away` from the crest and each next place is one farther.
 fn falling(slopes: &Slopes, low: u32, away: u32, until: u32) -> [u32; 3]
     requires slopes { AreSlopes slopes.now }
@@ -19,7 +19,7 @@ fn falling(slopes: &Slopes, low: u32, away: u32, until: u32) -> [u32; 3]
     [top.min(until) as u32, foot.min(until) as u32, until as u32]
 }
 
-/// The ends over such places where `until` is `away` from the crest and each place before is one
+/// The ends over such places if `until` is `away` from the crest and each place before is one
 /// farther.
 fn rising(slopes: &Slopes, low: u32, away: u32, until: u32) -> [u32; 3]
     requires slopes { AreSlopes slopes.now }

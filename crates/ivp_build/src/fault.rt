@@ -4,7 +4,7 @@ ghost use Rattle.ivp_build.specs.Faults.{IsMemory};
 use ivp_func::FuncFault;
 use std::alloc::AllocError;
 
-/// Why no function is built: `TooMany` where it would have more than 4,096 pieces.
+/// Why no function is built: `TooMany` if it would have more than 4,096 pieces.
 #[derive(Clone, Copy, Debug, PartialEq, Eq)]
 pub enum BuildFault {
     TooMany,

@@ -14,7 +14,7 @@ pub fn near_law()
     ensures { NearIsNearest }
 {}
 
-/// What holds of the greatest values of two functions: where they are together at most 100,000, there is room for the sum of
+/// What holds of the greatest values of two functions: if they are together at most 100,000, there is room for the sum of
 /// the functions. It does nothing.
 pub fn room_law()
     ensures { TopsLeaveRoom }

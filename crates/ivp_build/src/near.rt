@@ -50,7 +50,7 @@ fn value_at_place(domain: &Domain, axis: u32, place: u32) -> i64
     domain.value(axis, place)
 }
 
-/// How far the number at a place is from this one: round the circle where the axis wraps.
+/// How far the number at a place is from this one: round the circle if the axis wraps.
 fn miss(domain: &Domain, axis: u32, number: i64, place: u32) -> u64
     requires axis { axis < length domain.now }
     requires place { place < size_on axis domain.now }
@@ -89,7 +89,7 @@ fn course_of(number: i64) -> u64
     }
 }
 
-/// The number that is sought on an axis: where it wraps, the course from 0 to below a circle.
+/// The number that is sought on an axis: if it wraps, the course from 0 to below a circle.
 fn sought(axis: &Axis, number: i64) -> i64
     requires good { IsTrue (is_good_axis axis.now) }
     requires few { axis.now.points ≤ 2 ^ 28 }

@@ -18,7 +18,7 @@ use std::alloc::{AllocError, Global};
 /// The greatest value that a function may have.
 const MOST: i64 = 100_000;
 
-/// The change from the low corner to the high end on an axis, by place, toward zero: 0 where the
+/// The change from the low corner to the high end on an axis, by place, toward zero: 0 if the
 /// box has one place there.
 fn slope<F: Fn(&Point) -> i64>(utility: &F, area: &BoxN, low: i64, axis: usize) -> i64
     requires axis { axis < 4 }
@@ -77,7 +77,7 @@ fn total(value: i64, one: i64, two: i64, three: i64, four: i64) -> i64
 }
 
 /// Whether the value that grows evenly from one at the low corner is from 0 to 100,000 at each
-/// point of the box: it is, where it is at the two corners to which it falls and rises most.
+/// point of the box: it is, if it is at the two corners to which it falls and rises most.
 fn stays_in_range(area: &BoxN, value: i64, slopes: &[i64; 4]) -> bool
     requires { IsSample area.now value slopes.now }
     ensures { result ≡ stays_in_range area.now value slopes.now }
@@ -103,7 +103,7 @@ fn base_at(area: &BoxN, value: i64, slopes: &[i64; 4]) -> i64
     total(value, -one, -two, -three, -four)
 }
 
-/// The piece that grows evenly where that stays in range, and else is constant.
+/// The piece that grows evenly if that stays in range, and else is constant.
 fn piece_from(area: &BoxN, value: i64, slopes: &[i64; 4]) -> Piece
     requires { IsSample area.now value slopes.now }
     ensures { result ≡ piece_from area.now value slopes.now }
@@ -176,7 +176,7 @@ pub fn box_count(domain: &Domain, size: u32) -> u64
 /// A utility of any form, sampled in boxes of `size` places on each axis, the last ones shorter: on
 /// each the piece fits the utility at the low corner and has on each axis the change to the high
 /// end, by place, toward zero. A piece that would leave 0 to 100,000 is constant. The utility is
-/// asked at points of the domain and answers from 0 to 100,000. `TooMany` exactly where there are
+/// asked at points of the domain and answers from 0 to 100,000. `TooMany` exactly if there are
 /// more than 4,096 boxes, unless no memory is left.
 pub fn uniform<F: Fn(&Point) -> i64>(
     alloc: Global,

@@ -31,7 +31,7 @@ fn slope_sum(p: &Piece, q: &Piece, axis: usize) -> i64
     p.slope[axis] + q.slope[axis]
 }
 
-/// The sum of two pieces on what their boxes have in common. `None` exactly where that is nothing.
+/// The sum of two pieces on what their boxes have in common. `None` exactly if that is nothing.
 fn met_sum(p: &Piece, q: &Piece) -> Option<Piece>
     requires p { IsTrue (is_small p.now) }
     requires q { IsTrue (is_small q.now) }
@@ -52,7 +52,7 @@ fn met_sum(p: &Piece, q: &Piece) -> Option<Piece>
     }
 }
 
-/// Adds a piece, where there is one, to fewer than 4,096.
+/// Adds a piece, if there is one, to fewer than 4,096.
 pub(crate) fn add(pieces: &mut Vec<Piece>, piece: Option<Piece>) -> Result<(), BuildFault>
     requires { length pieces.old.items ≤ 4096 }
     ensures added { OnOk result (pieces.new.items ≡ pieces.old.items ++ option_to_list piece) }
@@ -91,8 +91,8 @@ fn add_sums(pieces: &mut Vec<Piece>, one: &Piece, g: &Func) -> Result<(), BuildF
     Ok(())
 }
 
-/// The sum of two functions over one domain: at each point the sum of their values. Its pieces are those where pieces of
-/// both meet, in the first one's order and then in the second's. `TooMany` exactly where these are more than 4,096, unless
+/// The sum of two functions over one domain: at each point the sum of their values. Its pieces are those if pieces of
+/// both meet, in the first one's order and then in the second's. `TooMany` exactly if these are more than 4,096, unless
 /// no memory is left.
 pub fn couple(alloc: Global, f: &Func, g: &Func) -> Result<Func, BuildFault>
     requires domain { f.now.axes ≡ g.now.axes }

@@ -12,10 +12,10 @@ use Rattle.moos_text.proofs.Numerals.{unsigned_most}
 use Rattle.ivp_problem.specs.Problems.{WeightedSum}
 use Rattle.ivp_cert.specs.declared.cert.Line.{Line}
 use Rattle.ivp_cert.specs.declared.claim.Decision.{Decision}
-use Rattle.ivp_cert.specs.declared.phase.Phase.{Phase}
-use Rattle.ivp_cert.specs.declared.phase.Phase.TheVariants.{Done, OfCuts, OfProblem}
-use Rattle.ivp_cert.specs.declared.stage.Stage.{Stage}
-use Rattle.ivp_cert.specs.declared.stage.Stage.TheVariants.{Start, Begun, Axes, Functions, Ended}
+use Rattle.ivp_cert.specs.declared.phase.DecisionStage.{DecisionStage}
+use Rattle.ivp_cert.specs.declared.phase.DecisionStage.TheVariants.{Done, OfCuts, OfProblem}
+use Rattle.ivp_cert.specs.declared.stage.ProblemStage.{ProblemStage}
+use Rattle.ivp_cert.specs.declared.stage.ProblemStage.TheVariants.{Start, Begun, Axes, Functions, Ended}
 use Rattle.ivp_cert.specs.declared.claim.Spelled.{Spelled}
 use Rattle.ivp_cert.specs.Decisions.{are_on, bound_with, claimed, decision_of, in_form, line_from, line_with, point_at, spelled, spelled_with, sum_word, with_claim, with_cut, with_line}
 use Rattle.ivp_cert.specs.Problems.{nothing_behind, problem_of}
@@ -31,7 +31,7 @@ record KeepsSums (decision : Decision) : Type 0 where
   pub sum : decision.claim.sum ≤ 64 * 10 ^ 12
   pub sums : Each (λ (line : Line). line.sum ≤ 64 * 10 ^ 12) decision.cert
 
-abbrev Good : Phase → Type 0
+abbrev Good : DecisionStage → Type 0
 Good (OfProblem stage) = Unit {0}
 Good (OfCuts decision) = KeepsSums decision
 Good (Done decision) = KeepsSums decision
@@ -101,10 +101,10 @@ from_sum path (word ∷ words) line e = by (bytes_eq word (codes ":")) (nat_lt (
 ok_inside : {A E : Type 0} {p q : A} → ◌≡◌ {A = Result A E} (Ok p) (Ok q) → p ≡ q
 ok_inside e = cc
 
-good_at : {E : Type 0} (phase next : Phase) → ◌≡◌ {A = Result Phase E} (Ok phase) (Ok next) → Good phase → Good next
+good_at : {E : Type 0} (phase next : DecisionStage) → ◌≡◌ {A = Result DecisionStage E} (Ok phase) (Ok next) → Good phase → Good next
 good_at phase next e good = subst Good (ok_inside e) good
 
-of_good : (r : Result Stage ReadFault) (next : Phase) → as_now OfProblem r ≡ Ok next → Good next
+of_good : (r : Result ProblemStage ReadFault) (next : DecisionStage) → as_now OfProblem r ≡ Ok next → Good next
 of_good (Ok stage) next e = good_at (OfProblem stage) next e tt
 of_good (Err fault) next e = absurd (cc)
 
@@ -118,7 +118,7 @@ claimed_good problem of decision few e = by (are_on problem.axes of.places) e
     by true e = let same : bare ≡ decision = cc in subst KeepsSums same (record { sum = few; sums = tt })
     by false e = absurd (cc)
 
-problem_good : (problem : WeightedSum) (word : List ℕ) (words : List (List ℕ)) (next : Phase) → after_problem problem word words ≡ Ok next → Good next
+problem_good : (problem : WeightedSum) (word : List ℕ) (words : List (List ℕ)) (next : DecisionStage) → after_problem problem word words ≡ Ok next → Good next
 problem_good problem word words next e = by (bytes_eq word (codes "decision")) e
   where
     by : (b : Bool) → cond b (as_now OfCuts (with_claim problem words)) (Err P1) ≡ Ok next → Good next
@@ -128,11 +128,11 @@ problem_good problem word words next e = by (bytes_eq word (codes "decision")) e
         good_at (OfCuts claim.0) next claim.2 (claimed_good problem one.0 claim.0 (spelled_sum [] words one.0 (form_of (spelled [] words) one.0 one.1)) one.2)
     by false e = absurd (cc)
 
-done_good : (decision : Decision) (words : List (List ℕ)) (next : Phase) → KeepsSums decision → as_now Done (nothing_behind decision words) ≡ Ok next → Good next
+done_good : (decision : Decision) (words : List (List ℕ)) (next : DecisionStage) → KeepsSums decision → as_now Done (nothing_behind decision words) ≡ Ok next → Good next
 done_good decision [] next good e = good_at (Done decision) next e good
 done_good decision (word ∷ words) next good e = absurd (cc)
 
-cuts_good : (decision : Decision) (word : List ℕ) (words : List (List ℕ)) (next : Phase) → KeepsSums decision → after_cuts decision word words ≡ Ok next → Good next
+cuts_good : (decision : Decision) (word : List ℕ) (words : List (List ℕ)) (next : DecisionStage) → KeepsSums decision → after_cuts decision word words ≡ Ok next → Good next
 cuts_good decision word words next good e = by (bytes_eq word (codes "cut")) (bytes_eq word (codes "done")) e
   where
     by : (cut done : Bool) → cond cut (as_now OfCuts (with_cut decision words)) (cond done (as_now Done (nothing_behind decision words)) (Err P1)) ≡ Ok next → Good next
@@ -146,26 +146,26 @@ cuts_good decision word words next good e = by (bytes_eq word (codes "cut")) (by
     by false true e = done_good decision words next good e
     by false false e = absurd (cc)
 
-stage_good : (line : ℕ) (stage : Stage) (word : List ℕ) (words : List (List ℕ)) (next : Phase) → after_stage line stage word words ≡ Ok next → Good next
+stage_good : (line : ℕ) (stage : ProblemStage) (word : List ℕ) (words : List (List ℕ)) (next : DecisionStage) → after_stage line stage word words ≡ Ok next → Good next
 stage_good line Start word words next e = of_good (after_word line Start word words) next e
 stage_good line Begun word words next e = of_good (after_word line Begun word words) next e
 stage_good line (Axes axes) word words next e = of_good (after_word line (Axes axes) word words) next e
 stage_good line (Functions sum) word words next e = of_good (after_word line (Functions sum) word words) next e
 stage_good line (Ended problem) word words next e = problem_good problem word words next (line_of line (after_problem problem word words) next e)
 
-phase_good : (line : ℕ) (phase : Phase) (words : List (List ℕ)) (next : Phase) → Good phase → phase_after line phase words ≡ Ok next → Good next
+phase_good : (line : ℕ) (phase : DecisionStage) (words : List (List ℕ)) (next : DecisionStage) → Good phase → phase_after line phase words ≡ Ok next → Good next
 phase_good line phase [] next good e = good_at phase next e good
 phase_good line (OfProblem stage) (word ∷ words) next good e = stage_good line stage word words next e
 phase_good line (OfCuts decision) (word ∷ words) next good e = cuts_good decision word words next good (line_of line (after_cuts decision word words) next e)
 phase_good line (Done decision) (word ∷ words) next good e = absurd (cc)
 
-read_good : (raws : List (List ℕ)) (lines : ℕ) (phase last : Phase) → Good phase → after_lines phase_after lines phase raws ≡ Ok last → Good last
+read_good : (raws : List (List ℕ)) (lines : ℕ) (phase last : DecisionStage) → Good phase → after_lines phase_after lines phase raws ≡ Ok last → Good last
 read_good [] lines phase last good e = good_at phase last e good
 read_good (raw ∷ raws) lines phase last good e =
     let one = then_of (λ next. after_lines phase_after (suc lines) next raws) (phase_after (suc lines) phase (line_words raw)) last e in
     read_good raws (suc lines) one.0 last (phase_good (suc lines) phase (line_words raw) one.0 good one.1) one.2
 
-whole_good : (last : ℕ) (phase : Phase) (decision : Decision) → Good phase → whole_decision last phase ≡ Ok decision → KeepsSums decision
+whole_good : (last : ℕ) (phase : DecisionStage) (decision : Decision) → Good phase → whole_decision last phase ≡ Ok decision → KeepsSums decision
 whole_good last (OfProblem stage) decision good e = absurd (cc)
 whole_good last (OfCuts cuts) decision good e = absurd (cc)
 whole_good last (Done done) decision good e = let same : done ≡ decision = cc in subst KeepsSums same good
@@ -183,14 +183,14 @@ read_sums bytes (Ok decision) e =
 read_sums bytes (Err fault) e = tt
 
 -- where no line is left
-pub read_whole : (bytes : List ℕ) (lines last : ℕ) (phase : Phase) (left : List ℕ) → IsRead phase_after (OfProblem Start) bytes lines phase left → left ≡ [] → last ≡ max lines 1 → decision_of bytes ≡ whole_decision last phase
+pub read_whole : (bytes : List ℕ) (lines last : ℕ) (phase : DecisionStage) (left : List ℕ) → IsRead phase_after (OfProblem Start) bytes lines phase left → left ≡ [] → last ≡ max lines 1 → decision_of bytes ≡ whole_decision last phase
 read_whole bytes lines last phase left read none is =
     let so_far : after_lines phase_after 0 (OfProblem Start) (raw_lines bytes) ≡ Ok phase = read.so_far ∙ ap (λ text. after_lines phase_after lines phase (raw_lines text)) none in
     let counted : length (raw_lines bytes) ≡ lines = sym read.counted ∙ (ap (λ text. lines + length (raw_lines text)) none ∙ omega arith) in
     let same : max 1 (length (raw_lines bytes)) ≡ last = omega (arith, counted, is) in
     sym (decision_read bytes) ∙ ap (and_then (whole_decision (max 1 (length (raw_lines bytes))))) so_far ∙ ap (λ n. whole_decision n phase) same
 
-pub problem_whole : (bytes : List ℕ) (lines last : ℕ) (stage : Stage) (left : List ℕ) → IsRead stage_after Start bytes lines stage left → left ≡ [] → last ≡ max lines 1 → problem_of bytes ≡ whole_problem last stage
+pub problem_whole : (bytes : List ℕ) (lines last : ℕ) (stage : ProblemStage) (left : List ℕ) → IsRead stage_after Start bytes lines stage left → left ≡ [] → last ≡ max lines 1 → problem_of bytes ≡ whole_problem last stage
 problem_whole bytes lines last stage left read none is =
     let so_far : after_lines stage_after 0 Start (raw_lines bytes) ≡ Ok stage = read.so_far ∙ ap (λ text. after_lines stage_after lines stage (raw_lines text)) none in
     let counted : length (raw_lines bytes) ≡ lines = sym read.counted ∙ (ap (λ text. lines + length (raw_lines text)) none ∙ omega arith) in

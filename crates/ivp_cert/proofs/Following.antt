@@ -10,10 +10,10 @@ use Rattle.moos_text.specs.Refusals.{and_then, at_line}
 use Rattle.ivp_domain.specs.declared.axis.Axis.{Axis}
 use Rattle.ivp_problem.specs.Problems.{WeightedSum}
 use Rattle.ivp_cert.specs.declared.claim.Decision.{Decision}
-use Rattle.ivp_cert.specs.declared.phase.Phase.{Phase}
-use Rattle.ivp_cert.specs.declared.phase.Phase.TheVariants.{Done, OfCuts, OfProblem}
-use Rattle.ivp_cert.specs.declared.stage.Stage.{Stage}
-use Rattle.ivp_cert.specs.declared.stage.Stage.TheVariants.{Axes, Begun, Ended, Functions, Start}
+use Rattle.ivp_cert.specs.declared.phase.DecisionStage.{DecisionStage}
+use Rattle.ivp_cert.specs.declared.phase.DecisionStage.TheVariants.{Done, OfCuts, OfProblem}
+use Rattle.ivp_cert.specs.declared.stage.ProblemStage.{ProblemStage}
+use Rattle.ivp_cert.specs.declared.stage.ProblemStage.TheVariants.{Axes, Begun, Ended, Functions, Start}
 use Rattle.ivp_cert.specs.Decisions.{claim_in, cuts_in, decision_of, with_claim, with_cut}
 use Rattle.ivp_cert.specs.Pieces.{piece_of}
 use Rattle.ivp_cert.specs.Problems.{axes_in, domain_in, nothing_behind, ended_early, finished, functions_in, is_first, problem_in, problem_of, with_domain, with_function, with_piece}
@@ -27,7 +27,7 @@ abbrev Next : Type 0 → Type 0
 Next A = WeightedSum → List SaidLine → Result A ReadFault
 
 -- what the lines that are left come to, behind a stage
-abbrev behind : {A : Type 0} → ℕ → Next A → List SaidLine → Stage → Result A ReadFault
+abbrev behind : {A : Type 0} → ℕ → Next A → List SaidLine → ProblemStage → Result A ReadFault
 behind last next lines Start = problem_in last next lines
 behind last next lines Begun = domain_in last next lines
 behind last next lines (Axes axes) = axes_in last next axes lines
@@ -35,7 +35,7 @@ behind last next lines (Functions sum) = functions_in last next sum lines
 behind last next lines (Ended problem) = next problem lines
 
 -- and behind a phase
-abbrev behind_phase : ℕ → List SaidLine → Phase → Result Decision ReadFault
+abbrev behind_phase : ℕ → List SaidLine → DecisionStage → Result Decision ReadFault
 behind_phase last lines (OfProblem stage) = behind last (claim_in last) lines stage
 behind_phase last lines (OfCuts decision) = cuts_in last decision lines
 behind_phase last lines (Done decision) = last_of decision lines
@@ -85,21 +85,21 @@ abbrev said : ℕ → List ℕ → List (List ℕ) → SaidLine
 said line word words = record { line = line; word = word; rest = words }
 
 -- before `end`
-abbrev Open : Stage → Type 0
+abbrev Open : ProblemStage → Type 0
 Open Start = Unit {0}
 Open Begun = Unit {0}
 Open (Axes axes) = Unit {0}
 Open (Functions sum) = Unit {0}
 Open (Ended problem) = ⊥
 
-stage_line : {A : Type 0} (last : ℕ) (next : Next A) (lines : List SaidLine) (stage : Stage) (line : ℕ) (word : List ℕ) (words : List (List ℕ)) → Open stage → and_then (behind last next lines) (after_word line stage word words) ≡ behind last next (said line word words ∷ lines) stage
+stage_line : {A : Type 0} (last : ℕ) (next : Next A) (lines : List SaidLine) (stage : ProblemStage) (line : ℕ) (word : List ℕ) (words : List (List ℕ)) → Open stage → and_then (behind last next lines) (after_word line stage word words) ≡ behind last next (said line word words ∷ lines) stage
 stage_line last next lines Start line word words is = line_begun last next lines line (is_first word words)
 stage_line last next lines Begun line word words is = line_domain last next lines line words (bytes_eq word (codes "domain"))
 stage_line last next lines (Axes axes) line word words is = line_axes last next lines axes line words (bytes_eq word (codes "domain")) (bytes_eq word (codes "function")) (bytes_eq word (codes "end"))
 stage_line last next lines (Functions sum) line word words is = line_functions last next lines sum line words (bytes_eq word (codes "piece")) (bytes_eq word (codes "function")) (bytes_eq word (codes "end"))
 stage_line last next lines (Ended problem) line word words is = absurd is
 
-problem_line : (last : ℕ) (lines : List SaidLine) (stage : Stage) (line : ℕ) (word : List ℕ) (words : List (List ℕ)) → and_then (behind last last_of lines) (after_word line stage word words) ≡ behind last last_of (said line word words ∷ lines) stage
+problem_line : (last : ℕ) (lines : List SaidLine) (stage : ProblemStage) (line : ℕ) (word : List ℕ) (words : List (List ℕ)) → and_then (behind last last_of lines) (after_word line stage word words) ≡ behind last last_of (said line word words ∷ lines) stage
 problem_line last lines Start line word words = stage_line last last_of lines Start line word words tt
 problem_line last lines Begun line word words = stage_line last last_of lines Begun line word words tt
 problem_line last lines (Axes axes) line word words = stage_line last last_of lines (Axes axes) line word words tt
@@ -107,7 +107,7 @@ problem_line last lines (Functions sum) line word words = stage_line last last_o
 problem_line last lines (Ended problem) line word words = refl
 
 -- a line of a decision
-of_stage : (last : ℕ) (lines : List SaidLine) (stage : Stage) (line : ℕ) (word : List ℕ) (words : List (List ℕ)) → Open stage → and_then (behind_phase last lines) (as_now OfProblem (after_word line stage word words)) ≡ behind last (claim_in last) (said line word words ∷ lines) stage
+of_stage : (last : ℕ) (lines : List SaidLine) (stage : ProblemStage) (line : ℕ) (word : List ℕ) (words : List (List ℕ)) → Open stage → and_then (behind_phase last lines) (as_now OfProblem (after_word line stage word words)) ≡ behind last (claim_in last) (said line word words ∷ lines) stage
 of_stage last lines stage line word words is = one_formed OfProblem (behind_phase last lines) (after_word line stage word words) ∙ stage_line last (claim_in last) lines stage line word words is
 
 line_claim : (last : ℕ) (lines : List SaidLine) (problem : WeightedSum) (line : ℕ) (words : List (List ℕ)) (claim : Bool) → and_then (behind_phase last lines) (at_line line (cond claim (as_now OfCuts (with_claim problem words)) (Err P1))) ≡ cond claim (and_then (λ decision. cuts_in last decision lines) (at_line line (with_claim problem words))) (Err (At line P1))
@@ -119,7 +119,7 @@ line_cuts last lines decision line words true done = one_line OfCuts (behind_pha
 line_cuts last lines decision line words false true = one_line Done (behind_phase last lines) line (nothing_behind decision words)
 line_cuts last lines decision line words false false = refl
 
-decision_line : (last : ℕ) (lines : List SaidLine) (phase : Phase) (line : ℕ) (word : List ℕ) (words : List (List ℕ)) → and_then (behind_phase last lines) (after_first line phase word words) ≡ behind_phase last (said line word words ∷ lines) phase
+decision_line : (last : ℕ) (lines : List SaidLine) (phase : DecisionStage) (line : ℕ) (word : List ℕ) (words : List (List ℕ)) → and_then (behind_phase last lines) (after_first line phase word words) ≡ behind_phase last (said line word words ∷ lines) phase
 decision_line last lines (OfProblem Start) line word words = of_stage last lines Start line word words tt
 decision_line last lines (OfProblem Begun) line word words = of_stage last lines Begun line word words tt
 decision_line last lines (OfProblem (Axes axes)) line word words = of_stage last lines (Axes axes) line word words tt
@@ -129,19 +129,19 @@ decision_line last lines (OfCuts decision) line word words = line_cuts last line
 decision_line last lines (Done decision) line word words = refl
 
 -- all lines, by those behind the first
-problem_more : (last : ℕ) (raws : List (List ℕ)) (lines : ℕ) (stage : Stage) (words : List (List ℕ)) → ((next : Stage) → and_then (whole_problem last) (after_lines stage_after (suc lines) next raws) ≡ behind last last_of (said_from (suc lines) raws) next) → and_then (whole_problem last) (and_then (λ next. after_lines stage_after (suc lines) next raws) (stage_after (suc lines) stage words)) ≡ behind last last_of (said_with (suc lines) words (said_from (suc lines) raws)) stage
+problem_more : (last : ℕ) (raws : List (List ℕ)) (lines : ℕ) (stage : ProblemStage) (words : List (List ℕ)) → ((next : ProblemStage) → and_then (whole_problem last) (after_lines stage_after (suc lines) next raws) ≡ behind last last_of (said_from (suc lines) raws) next) → and_then (whole_problem last) (and_then (λ next. after_lines stage_after (suc lines) next raws) (stage_after (suc lines) stage words)) ≡ behind last last_of (said_with (suc lines) words (said_from (suc lines) raws)) stage
 problem_more last raws lines stage [] others = others stage
 problem_more last raws lines stage (word ∷ words) others =
     then_each (whole_problem last) (λ next. after_lines stage_after (suc lines) next raws) (behind last last_of (said_from (suc lines) raws)) (after_word (suc lines) stage word words) others
     ∙ problem_line last (said_from (suc lines) raws) stage (suc lines) word words
 
-decision_more : (last : ℕ) (raws : List (List ℕ)) (lines : ℕ) (phase : Phase) (words : List (List ℕ)) → ((next : Phase) → and_then (whole_decision last) (after_lines phase_after (suc lines) next raws) ≡ behind_phase last (said_from (suc lines) raws) next) → and_then (whole_decision last) (and_then (λ next. after_lines phase_after (suc lines) next raws) (phase_after (suc lines) phase words)) ≡ behind_phase last (said_with (suc lines) words (said_from (suc lines) raws)) phase
+decision_more : (last : ℕ) (raws : List (List ℕ)) (lines : ℕ) (phase : DecisionStage) (words : List (List ℕ)) → ((next : DecisionStage) → and_then (whole_decision last) (after_lines phase_after (suc lines) next raws) ≡ behind_phase last (said_from (suc lines) raws) next) → and_then (whole_decision last) (and_then (λ next. after_lines phase_after (suc lines) next raws) (phase_after (suc lines) phase words)) ≡ behind_phase last (said_with (suc lines) words (said_from (suc lines) raws)) phase
 decision_more last raws lines phase [] others = others phase
 decision_more last raws lines phase (word ∷ words) others =
     then_each (whole_decision last) (λ next. after_lines phase_after (suc lines) next raws) (behind_phase last (said_from (suc lines) raws)) (after_first (suc lines) phase word words) others
     ∙ decision_line last (said_from (suc lines) raws) phase (suc lines) word words
 
-problem_lines : (last : ℕ) (raws : List (List ℕ)) (lines : ℕ) (stage : Stage) → and_then (whole_problem last) (after_lines stage_after lines stage raws) ≡ behind last last_of (said_from lines raws) stage
+problem_lines : (last : ℕ) (raws : List (List ℕ)) (lines : ℕ) (stage : ProblemStage) → and_then (whole_problem last) (after_lines stage_after lines stage raws) ≡ behind last last_of (said_from lines raws) stage
 problem_lines last [] lines Start = refl
 problem_lines last [] lines Begun = refl
 problem_lines last [] lines (Axes axes) = refl
@@ -149,7 +149,7 @@ problem_lines last [] lines (Functions sum) = refl
 problem_lines last [] lines (Ended problem) = refl
 problem_lines last (raw ∷ raws) lines stage = problem_more last raws lines stage (line_words raw) (λ next. problem_lines last raws (suc lines) next)
 
-decision_lines : (last : ℕ) (raws : List (List ℕ)) (lines : ℕ) (phase : Phase) → and_then (whole_decision last) (after_lines phase_after lines phase raws) ≡ behind_phase last (said_from lines raws) phase
+decision_lines : (last : ℕ) (raws : List (List ℕ)) (lines : ℕ) (phase : DecisionStage) → and_then (whole_decision last) (after_lines phase_after lines phase raws) ≡ behind_phase last (said_from lines raws) phase
 decision_lines last [] lines (OfProblem Start) = refl
 decision_lines last [] lines (OfProblem Begun) = refl
 decision_lines last [] lines (OfProblem (Axes axes)) = refl

@@ -5,8 +5,8 @@ use Rattle.std.specs.List.{concat}
 use Rattle.moos_io.proofs.Lists.{each_from}
 use Rattle.moos_text.specs.Lines.{raw_lines}
 use Rattle.ivp_cert.specs.declared.claim.Decision.{Decision}
-use Rattle.ivp_cert.specs.declared.phase.Phase.TheVariants.{Done, OfCuts, OfProblem}
-use Rattle.ivp_cert.specs.declared.stage.Stage.TheVariants.{Ended, Start}
+use Rattle.ivp_cert.specs.declared.phase.DecisionStage.TheVariants.{Done, OfCuts, OfProblem}
+use Rattle.ivp_cert.specs.declared.stage.ProblemStage.TheVariants.{Ended, Start}
 use Rattle.ivp_cert.specs.Decisions.{decision_of}
 use Rattle.ivp_cert.specs.Printed.{AllOf, IsPrefix, IsPrintableLine, IsPrintableProblem}
 use Rattle.ivp_cert.specs.Stages.{whole_decision}

@@ -9,8 +9,8 @@ use Rattle.moos_text.specs.declared.cause.ReadFault.TheVariants.{At}
 use Rattle.moos_text.specs.Lines.{raw_lines, words_of}
 use Rattle.ivp_problem.proofs.Examples.{two}
 use Rattle.ivp_cert.specs.declared.claim.Decision.{Decision}
-use Rattle.ivp_cert.specs.declared.phase.Phase.TheVariants.{OfProblem, OfCuts, Done}
-use Rattle.ivp_cert.specs.declared.stage.Stage.TheVariants.{Start, Begun, Axes, Functions, Ended}
+use Rattle.ivp_cert.specs.declared.phase.DecisionStage.TheVariants.{OfProblem, OfCuts, Done}
+use Rattle.ivp_cert.specs.declared.stage.ProblemStage.TheVariants.{Start, Begun, Axes, Functions, Ended}
 use Rattle.ivp_cert.specs.Making.{line_fault}
 use Rattle.ivp_cert.specs.Pieces.{are_slopes, is_slope_where}
 use Rattle.ivp_cert.specs.Stages.{stage_after, HasPoint, phase_after, after_lines, whole_decision, whole_problem}

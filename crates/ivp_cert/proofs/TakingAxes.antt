@@ -6,9 +6,9 @@ use Rattle.std.proofs.lemmas.Bool.{lt-ltb}
 use Rattle.ivp_domain.specs.declared.axis.Axis.{Axis}
 use Rattle.ivp_domain.specs.Domains.{is_domain}
 use Rattle.ivp_domain.proofs.Sizes.{four_axes}
-use Rattle.ivp_cert.specs.declared.phase.Phase.TheVariants.{OfProblem}
-use Rattle.ivp_cert.specs.declared.stage.Stage.{Stage}
-use Rattle.ivp_cert.specs.declared.stage.Stage.TheVariants.{Begun, Axes}
+use Rattle.ivp_cert.specs.declared.phase.DecisionStage.TheVariants.{OfProblem}
+use Rattle.ivp_cert.specs.declared.stage.ProblemStage.{ProblemStage}
+use Rattle.ivp_cert.specs.declared.stage.ProblemStage.TheVariants.{Begun, Axes}
 use Rattle.ivp_cert.specs.Printed.{IsPrefix}
 use Rattle.ivp_cert.specs.Problems.{with_domain}
 use Rattle.ivp_cert.specs.Stages.{after_first}
@@ -19,7 +19,7 @@ use Rattle.ivp_cert.proofs.PrintedLines.{IsWord}
 use Rattle.ivp_cert.proofs.Taking.{Leads, Takes, takes_as, takes_both, takes_line, takes_none, takes_to}
 
 -- the stage after so many axes
-abbrev pub stage_at : List Axis → Stage
+abbrev pub stage_at : List Axis → ProblemStage
 stage_at [] = Begun
 stage_at (axis ∷ axes) = Axes (axis ∷ axes)
 

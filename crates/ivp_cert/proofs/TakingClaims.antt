@@ -11,8 +11,8 @@ use Rattle.ivp_domain.specs.Domains.{is_domain, is_point, size_on}
 use Rattle.ivp_domain.proofs.Sizes.{few_on, four_axes, places_below}
 use Rattle.ivp_problem.specs.Problems.{WeightedSum}
 use Rattle.ivp_cert.specs.declared.claim.Claim.{Claim}
-use Rattle.ivp_cert.specs.declared.phase.Phase.TheVariants.{OfCuts, OfProblem}
-use Rattle.ivp_cert.specs.declared.stage.Stage.TheVariants.{Ended}
+use Rattle.ivp_cert.specs.declared.phase.DecisionStage.TheVariants.{OfCuts, OfProblem}
+use Rattle.ivp_cert.specs.declared.stage.ProblemStage.TheVariants.{Ended}
 use Rattle.ivp_cert.specs.Decisions.{are_on, spelled, spelled_with}
 use Rattle.ivp_cert.specs.Stages.{after_first}
 use Rattle.ivp_cert.specs.Printed.{IsPrefix}

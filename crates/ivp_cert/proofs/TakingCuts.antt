@@ -7,7 +7,7 @@ use Rattle.moos_io.proofs.Lists.{each_append, each_from}
 use Rattle.moos_text.specs.Numbers.{unsigned_text}
 use Rattle.ivp_cert.specs.declared.cert.Line.{Line}
 use Rattle.ivp_cert.specs.declared.claim.Decision.{Decision}
-use Rattle.ivp_cert.specs.declared.phase.Phase.TheVariants.{Done, OfCuts}
+use Rattle.ivp_cert.specs.declared.phase.DecisionStage.TheVariants.{Done, OfCuts}
 use Rattle.ivp_cert.specs.Decisions.{line_from}
 use Rattle.ivp_cert.specs.Stages.{after_first}
 use Rattle.ivp_cert.specs.Printed.{IsPrefix, IsPrintableLine}

@@ -7,8 +7,8 @@ use Rattle.ivp_domain.specs.Domains.{is_domain}
 use Rattle.ivp_func.specs.declared.piece.Piece.{Piece}
 use Rattle.ivp_func.specs.Pieces.{is_piece_of}
 use Rattle.ivp_func.proofs.Facts.{piece_parts}
-use Rattle.ivp_cert.specs.declared.phase.Phase.TheVariants.{OfProblem}
-use Rattle.ivp_cert.specs.declared.stage.Stage.TheVariants.{Functions}
+use Rattle.ivp_cert.specs.declared.phase.DecisionStage.TheVariants.{OfProblem}
+use Rattle.ivp_cert.specs.declared.stage.ProblemStage.TheVariants.{Functions}
 use Rattle.ivp_cert.specs.Stages.{after_first}
 use Rattle.ivp_cert.specs.Printed.{HasFourPlaces, IsPrefix}
 use Rattle.ivp_cert.specs.Texts.{piece_text}

@@ -16,8 +16,8 @@ use Rattle.ivp_func.proofs.Facts.{passes_at}
 use Rattle.ivp_func.proofs.PointTests.{partition_passes, values_pass}
 use Rattle.ivp_problem.specs.declared.term.Term.{Term}
 use Rattle.ivp_problem.specs.Problems.{WeightedSum}
-use Rattle.ivp_cert.specs.declared.phase.Phase.TheVariants.{OfProblem}
-use Rattle.ivp_cert.specs.declared.stage.Stage.TheVariants.{Begun, Ended, Functions, Start}
+use Rattle.ivp_cert.specs.declared.phase.DecisionStage.TheVariants.{OfProblem}
+use Rattle.ivp_cert.specs.declared.stage.ProblemStage.TheVariants.{Begun, Ended, Functions, Start}
 use Rattle.ivp_cert.specs.Printed.{HasFourPlaces, IsPrefix, IsPrintableProblem}
 use Rattle.ivp_cert.specs.Texts.{axis_text, problem_text, term_text}
 use Rattle.ivp_cert.proofs.PrintedAxes.{IsPrintedAxis}

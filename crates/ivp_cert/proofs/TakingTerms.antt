@@ -10,9 +10,9 @@ use Rattle.ivp_func.specs.Pieces.{is_piece_of}
 use Rattle.ivp_problem.specs.declared.term.Term.{Term}
 use Rattle.ivp_problem.specs.Problems.{is_weight, WeightedSum}
 use Rattle.ivp_problem.proofs.Slopes.{weight_most}
-use Rattle.ivp_cert.specs.declared.phase.Phase.TheVariants.{OfProblem}
-use Rattle.ivp_cert.specs.declared.stage.Stage.{Stage}
-use Rattle.ivp_cert.specs.declared.stage.Stage.TheVariants.{Axes, Ended, Functions}
+use Rattle.ivp_cert.specs.declared.phase.DecisionStage.TheVariants.{OfProblem}
+use Rattle.ivp_cert.specs.declared.stage.ProblemStage.{ProblemStage}
+use Rattle.ivp_cert.specs.declared.stage.ProblemStage.TheVariants.{Axes, Ended, Functions}
 use Rattle.ivp_cert.specs.Printed.{HasFourPlaces, IsPrefix}
 use Rattle.ivp_cert.specs.Problems.{finished, with_function}
 use Rattle.ivp_cert.specs.Stages.{after_first, as_now}
@@ -40,7 +40,7 @@ abbrev pub with_terms : WeightedSum → List Term → WeightedSum
 with_terms before terms = record { axes = before.axes; terms = before.terms ++ terms }
 
 -- behind this stage a function may stand, with these before it
-pub record Opens (before : WeightedSum) (stage : Stage) : Type 0 where
+pub record Opens (before : WeightedSum) (stage : ProblemStage) : Type 0 where
   pub function : (line : ℕ) (words : List (List ℕ)) → after_first line (OfProblem stage) (codes "function") words ≡ as_now OfProblem (at_line line (as_now Functions (with_function before line words)))
 
 pub axes_open : (axis : Axis) (axes : List Axis) → Opens (record { axes = axis ∷ axes; terms = [] }) (Axes (axis ∷ axes))
@@ -53,7 +53,7 @@ pub functions_end : (line : ℕ) (sum : UnfinishedSum) (whole : WeightedSum) →
 functions_end line sum whole e = rw e refl
 
 -- the functions up to here were read
-pub record TermsTaken (lines : ℕ) (stage : Stage) (text : List ℕ) (whole : WeightedSum) : Type 0 where
+pub record TermsTaken (lines : ℕ) (stage : ProblemStage) (text : List ℕ) (whole : WeightedSum) : Type 0 where
   pub more : ℕ
   pub sum : UnfinishedSum
   pub takes : Takes lines (OfProblem stage) text more (OfProblem (Functions sum))
@@ -66,7 +66,7 @@ function_word = record { some = omega arith; ink = (omega arith, (omega arith, (
 abbrev bare : WeightedSum → ℕ → Term → UnfinishedSum
 bare before line term = record { before = before; line = line; weight = term.weight; pieces = [] }
 
-weight_taken : (lines : ℕ) (prefix : List ℕ) (before : WeightedSum) (stage : Stage) (term : Term) → IsPrefix prefix → Opens before stage → is_weight term.weight ≡ true → length before.terms < 64 → Takes lines (OfProblem stage) (concat (prefix ∷ codes "function " ∷ unsigned_text term.weight ∷ codes "\n" ∷ [])) (suc lines) (OfProblem (Functions (bare before (suc lines) term)))
+weight_taken : (lines : ℕ) (prefix : List ℕ) (before : WeightedSum) (stage : ProblemStage) (term : Term) → IsPrefix prefix → Opens before stage → is_weight term.weight ≡ true → length before.terms < 64 → Takes lines (OfProblem stage) (concat (prefix ∷ codes "function " ∷ unsigned_text term.weight ∷ codes "\n" ∷ [])) (suc lines) (OfProblem (Functions (bare before (suc lines) term)))
 weight_taken lines prefix before stage term at opens weight few =
     let then = OfProblem (Functions (bare before (suc lines) term)) in
     let small = (weight_most term.weight weight).1 in
@@ -76,7 +76,7 @@ weight_taken lines prefix before stage term at opens weight few =
     (takes_line lines (OfProblem stage) then prefix 102 (codes "unction") (unsigned_text term.weight ∷ []) at (omega arith) function_word (unsigned_word term.weight (omega (arith, small)), tt)
     (opens.function (suc lines) (unsigned_text term.weight ∷ []) ∙ ap (λ r. as_now OfProblem (at_line (suc lines) (as_now Functions r))) good))
 
-term_taken : (lines : ℕ) (prefix : List ℕ) (before : WeightedSum) (stage : Stage) (term : Term) → IsPrefix prefix → is_domain before.axes ≡ true → Opens before stage → IsPrintedTerm before.axes term → length before.terms < 64 → TermsTaken lines stage (term_text prefix (length before.axes) term) (with_terms before (term ∷ []))
+term_taken : (lines : ℕ) (prefix : List ℕ) (before : WeightedSum) (stage : ProblemStage) (term : Term) → IsPrefix prefix → is_domain before.axes ≡ true → Opens before stage → IsPrintedTerm before.axes term → length before.terms < 64 → TermsTaken lines stage (term_text prefix (length before.axes) term) (with_terms before (term ∷ []))
 term_taken lines prefix before stage term at domain opens is few =
     let start = bare before (suc lines) term in
     let pieces = pieces_taken (suc lines) prefix start term.func.pieces at domain is.pieces is.four (omega (arith, is.few)) in
@@ -91,7 +91,7 @@ term_taken lines prefix before stage term at domain opens is few =
     }
 
 -- the functions, the first of which stands behind the axes
-pub terms_taken : (lines : ℕ) (prefix : List ℕ) (before : WeightedSum) (stage : Stage) (term : Term) (terms : List Term) → IsPrefix prefix → is_domain before.axes ≡ true → Opens before stage → IsPrintedTerm before.axes term → Each (IsPrintedTerm before.axes) terms → length before.terms + length (term ∷ terms) ≤ 64 → TermsTaken lines stage (flat_map (term_text prefix (length before.axes)) (term ∷ terms)) (with_terms before (term ∷ terms))
+pub terms_taken : (lines : ℕ) (prefix : List ℕ) (before : WeightedSum) (stage : ProblemStage) (term : Term) (terms : List Term) → IsPrefix prefix → is_domain before.axes ≡ true → Opens before stage → IsPrintedTerm before.axes term → Each (IsPrintedTerm before.axes) terms → length before.terms + length (term ∷ terms) ≤ 64 → TermsTaken lines stage (flat_map (term_text prefix (length before.axes)) (term ∷ terms)) (with_terms before (term ∷ terms))
 terms_taken lines prefix before stage term [] at domain opens is all few =
     let one = term_taken lines prefix before stage term at domain opens is (omega (arith, few)) in
     record { more = one.more; sum = one.sum; takes = takes_as lines one.more (OfProblem stage) (OfProblem (Functions one.sum)) _ _ (append-nil (term_text prefix (length before.axes) term)) one.takes; finishes = one.finishes }

@@ -41,13 +41,13 @@ begins [] path = true
 begins (number ∷ rest) [] = false
 begins (number ∷ rest) (other ∷ more) = number == other && begins rest more
 
--- a path stands before another one, as their numbers compare one by one: a beginning stands before what goes on
+-- a path is before another one, as their numbers compare one by one: a beginning is before what goes on
 abbrev pub is_before : List ℕ → List ℕ → Bool
 is_before path [] = false
 is_before [] (other ∷ more) = true
 is_before (number ∷ rest) (other ∷ more) = nat_lt number other || (number == other && is_before rest more)
 
--- the paths rise: each stands before those of all later lines
+-- the paths rise: each is before those of all later lines
 abbrev pub Rise : List Line → Type 0
 Rise [] = Unit {0}
 Rise (line ∷ lines) = IsTrue (list_all (λ later. is_before line.path later.path) lines) × Rise lines

@@ -55,7 +55,7 @@ claimed problem of =
     then Ok (record { problem = problem; claim = record { point = point_at of.places; sum = of.sum }; cert = [] })
     else Err P10
 
--- what stands behind `decision` is places and a sum
+-- what follows `decision` is places and a sum
 abbrev pub with_claim : WeightedSum → List (List ℕ) → Result Decision Cause
 with_claim problem words = and_then (claimed problem) (in_form (spelled [] words))
 
@@ -65,7 +65,7 @@ line_with path (Some sum) (Some index) = Some (record { path = path; sum = sum; 
 line_with path None index = None
 line_with path (Some sum) None = None
 
--- behind a path and `:` stand a sum and an index
+-- behind a path and `:` are a sum and an index
 abbrev pub bound_with : List ℕ → List (List ℕ) → Option Line
 bound_with path [] = None
 bound_with path (sum ∷ []) = None
@@ -84,11 +84,11 @@ line_from path (word ∷ words) =
 abbrev pub with_line : Decision → Line → Decision
 with_line decision line = record decision { cert = decision.cert ++ line ∷ [] }
 
--- what stands behind `cut` is a line of the certificate
+-- what follows `cut` is a line of the certificate
 abbrev pub with_cut : Decision → List (List ℕ) → Result Decision Cause
 with_cut decision words = and_then (λ line. Ok (with_line decision line)) (in_form (line_from [] words))
 
--- in a certificate stands one line more, or `done`, behind which no line says anything
+-- in a certificate is one line more, or `done`, behind which no line says anything
 abbrev pub cuts_in : ℕ → Decision → List SaidLine → Result Decision ReadFault
 cuts_in last decision [] = Err (At last P9)
 cuts_in last decision (said ∷ behind) =
@@ -96,7 +96,7 @@ cuts_in last decision (said ∷ behind) =
     else if bytes_eq said.word (codes "done") then and_then (λ whole. last_of whole behind) (at_line said.line (nothing_behind decision said.rest))
     else Err (At said.line P1)
 
--- behind a problem stands what is claimed of it, and then the certificate
+-- behind a problem is what is claimed of it, and then the certificate
 abbrev pub claim_in : ℕ → WeightedSum → List SaidLine → Result Decision ReadFault
 claim_in last problem [] = Err (At last P9)
 claim_in last problem (said ∷ behind) =

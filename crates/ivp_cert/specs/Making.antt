@@ -1,4 +1,4 @@
--- What a line is refused for where its pieces make no function.
+-- What a line is refused for if its pieces make no function.
 use Rattle.moos_text.specs.declared.cause.Cause.TheVariants.{P4, P5, P7}
 use Rattle.moos_text.specs.declared.cause.LineFault.{LineFault}
 use Rattle.moos_text.specs.declared.cause.LineFault.TheVariants.{Refused, NoMemory as OutOfMemory}

@@ -11,7 +11,7 @@ pub record Range : Type 0 where
   pub high : ℕ
   pub rest : List (List ℕ)
 
--- the range of these two places, where both are good
+-- the range of these two places, if both are good
 abbrev pub range_with : Option ℕ → Option ℕ → List (List ℕ) → Option Range
 range_with (Some low) (Some high) rest = Some (record { low = low; high = high; rest = rest })
 range_with None high rest = None
@@ -50,7 +50,7 @@ are_slopes axes slopes =
     is_slope_where (nat_lt 0 axes) (slice_index_or slopes 0 (pos 0)) && is_slope_where (nat_lt 1 axes) (slice_index_or slopes 1 (pos 0))
     && is_slope_where (nat_lt 2 axes) (slice_index_or slopes 2 (pos 0)) && is_slope_where (nat_lt 3 axes) (slice_index_or slopes 3 (pos 0))
 
--- the slopes along all four axes, where no word is left
+-- the slopes along all four axes, if no word is left
 abbrev pub slopes_with : Slope → Slope → Slope → Slope → Option (List ℤ)
 slopes_with one two three four = if length four.rest == 0 then Some (one.slope ∷ two.slope ∷ three.slope ∷ four.slope ∷ []) else None
 

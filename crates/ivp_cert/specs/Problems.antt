@@ -1,5 +1,5 @@
 -- What the bytes of a problem stand for: the problem, or its first refusal with its line and cause. First what one line
--- says, and then which line may follow which. `last` is the line that is refused where the lines end too early.
+-- says, and then which line may follow which. `last` is the line that is refused if the lines end too early.
 use Rattle.std.specs.Prelude.{ℕ, ℤ, pos, negsuc, Bool, false, ◌&&◌, nat_lt, if◌then◌else◌, List, [], ◌∷◌, ◌++◌, length, codes, bytes_eq, Option, Some, None, Result, Ok, Err}
 use Rattle.moos_text.specs.declared.cause.Cause.{Cause}
 use Rattle.moos_text.specs.declared.cause.Cause.TheVariants.{P1, P2, P3, P4, P5, P6, P7, P8, P9}
@@ -27,7 +27,7 @@ is_first word [] = false
 is_first word (one ∷ []) = bytes_eq word (codes "ivp") && bytes_eq one (codes "1")
 is_first word (one ∷ more ∷ rest) = false
 
--- the axes, where they make a domain
+-- the axes, if they make a domain
 abbrev pub over : Result (List Axis) DomainFault → Result (List Axis) Cause
 over (Ok axes) = Ok axes
 over (Err fault) = Err P2
@@ -37,7 +37,7 @@ abbrev pub with_axis : List Axis → Option Axis → Result (List Axis) Cause
 with_axis axes None = Err P2
 with_axis axes (Some axis) = if nat_lt (length axes) 4 then over (domain_of (axes ++ axis ∷ [])) else Err P2
 
--- what stands behind `domain` is one word
+-- what follows `domain` is one word
 abbrev pub with_domain : List Axis → List (List ℕ) → Result (List Axis) Cause
 with_domain axes [] = Err P1
 with_domain axes (word ∷ []) = with_axis axes (axis_of word)
@@ -50,7 +50,7 @@ with_weight before line (Some (negsuc n)) = Err P6
 with_weight before line (Some (pos weight)) =
     if is_weight weight then Ok (record { before = before; line = line; weight = weight; pieces = [] }) else Err P6
 
--- what stands behind `function` is one word; a 65th function is refused
+-- what follows `function` is one word; a 65th function is refused
 abbrev pub with_function : WeightedSum → ℕ → List (List ℕ) → Result UnfinishedSum Cause
 with_function before line [] = Err P1
 with_function before line (word ∷ []) = if nat_lt (length before.terms) 64 then with_weight before line (milli_of word) else Err P7
@@ -68,7 +68,7 @@ with_piece sum (Some piece) =
 abbrev pub last_term : UnfinishedSum → Term
 last_term sum = record { weight = sum.weight; func = record { axes = sum.before.axes; pieces = sum.pieces } }
 
--- The functions with the last one. It is refused at its own line where its pieces are no partition, and else where a
+-- The functions with the last one. It is refused at its own line if its pieces are no partition, and else if a
 -- value of it is out of range.
 abbrev pub finished : UnfinishedSum → Result WeightedSum ReadFault
 finished sum =
@@ -76,7 +76,7 @@ finished sum =
     (if has_values sum.before.axes sum.pieces then Ok (record sum.before { terms = sum.before.terms ++ last_term sum ∷ [] }) else Err (At sum.line P5))
     else Err (At sum.line P4)
 
--- no word stands behind `end`
+-- no word follows `end`
 abbrev pub nothing_behind : {A : Type 0} → A → List (List ℕ) → Result A Cause
 nothing_behind value [] = Ok value
 nothing_behind value (word ∷ rest) = Err P1
@@ -86,7 +86,7 @@ abbrev pub ended_early : List (List ℕ) → Cause
 ended_early [] = P8
 ended_early (word ∷ rest) = P1
 
--- Behind a function stands a piece of it, or the next function or `end`, which finish it first; behind `end` stands what
+-- Behind a function is a piece of it, or the next function or `end`, which finish it first; behind `end` is what
 -- `next` makes of the problem and the lines that are left.
 abbrev pub functions_in : {A : Type 0} → ℕ → (WeightedSum → List SaidLine → Result A ReadFault) → UnfinishedSum → List SaidLine → Result A ReadFault
 functions_in last next sum [] = Err (At last P9)
@@ -99,7 +99,7 @@ functions_in last next sum (said ∷ behind) =
     and_then (λ whole. and_then (λ problem. next problem behind) (at_line said.line (nothing_behind whole said.rest))) (finished sum)
     else Err (At said.line P1)
 
--- behind an axis stands another one, the first function, or `end`, which comes too early
+-- behind an axis is another one, the first function, or `end`, which comes too early
 abbrev pub axes_in : {A : Type 0} → ℕ → (WeightedSum → List SaidLine → Result A ReadFault) → List Axis → List SaidLine → Result A ReadFault
 axes_in last next axes [] = Err (At last P9)
 axes_in last next axes (said ∷ behind) =
@@ -109,7 +109,7 @@ axes_in last next axes (said ∷ behind) =
     else if bytes_eq said.word (codes "end") then Err (At said.line (ended_early said.rest))
     else Err (At said.line P1)
 
--- behind `ivp 1` stands an axis
+-- behind `ivp 1` is an axis
 abbrev pub domain_in : {A : Type 0} → ℕ → (WeightedSum → List SaidLine → Result A ReadFault) → List SaidLine → Result A ReadFault
 domain_in last next [] = Err (At last P9)
 domain_in last next (said ∷ behind) =

@@ -17,7 +17,7 @@ use Rattle.ivp_cert.specs.declared.claim.Decision.{Decision}
 abbrev pub number_word : ℕ → List ℕ
 number_word number = concat (codes " " ∷ decimal number ∷ [])
 
--- a number behind a blank, with `-` in front where it is below zero
+-- a number behind a blank, with `-` in front if it is below zero
 abbrev pub integer_word : ℤ → List ℕ
 integer_word number = concat (codes " " ∷ signed_decimal number ∷ [])
 

@@ -16,12 +16,12 @@ is_line_of problem key path node line =
     bytes_eq line.path path && line.sum == (bound_of problem node).sum && line.index == (bound_of problem node).index
     && is_at_most (bound_of problem node) key
 
--- the lines behind the first one, where that one is this node's
+-- the lines behind the first one, if that one is this node's
 abbrev pub behind_own : WeightedSum → Key → List ℕ → Node → List Line → Option (List Line)
 behind_own problem key path node [] = None
 behind_own problem key path node (line ∷ lines) = if is_line_of problem key path node line then Some lines else None
 
--- the lines behind those of a child, where there is one
+-- the lines behind those of a child, if there is one
 abbrev pub behind_child : (Node → List Line → Option (List Line)) → Option Node → List Line → Option (List Line)
 behind_child behind None lines = Some lines
 behind_child behind (Some child) lines = behind child lines

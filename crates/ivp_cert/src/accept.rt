@@ -46,7 +46,7 @@ fn is_line_of(problem: &Problem, key: Key, node: &Node, path: &[u32], line: &Lin
     line.sum == sum_of(bound) && line.index == index_of_key(bound) && at_most(bound, key)
 }
 
-// The place behind the line at this one, where that line is the node's.
+// The place behind the line at this one, if that line is the node's.
 fn behind_own(
     problem: &Problem,
     key: Key,

@@ -48,7 +48,7 @@ pub fn decide<R: Threads + Wait + Sync, G: Gate>(
     })
 }
 
-// The certificate of a problem that was searched, by several workers where one of them closed many nodes.
+// The certificate of a problem that was searched, by several workers if one of them closed many nodes.
 fn certificate<R: Threads + Sync>(
     rt: &R,
     alloc: Global,

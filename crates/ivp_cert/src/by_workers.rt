@@ -15,11 +15,11 @@ use moos_post::NoMemory;
 use std::alloc::Global;
 use std::thread::{Threads, map_indices};
 
-// How many subtrees there are at least, where the tree has so many. They are uneven, so many of them make the workers' shares even;
-// but one worker alone finds them, and where they are as many as the tree has nodes, nothing is left to share.
+// How many subtrees there are at least, if the tree has so many. They are uneven, so many of them make the workers' shares even;
+// but one worker alone finds them, and if they are as many as the tree has nodes, nothing is left to share.
 const SUBTREES: usize = 2_048;
 
-/// The same as `cut`, by 1 to 16 workers, each on a thread of its own where one can be started.
+/// The same as `cut`, by 1 to 16 workers, each on a thread of its own if one can be started.
 pub fn cut_by_workers<R: Threads + Sync>(
     rt: &R,
     alloc: Global,
@@ -82,7 +82,7 @@ fn cut_share(
     Ok(Share::of(cuts))
 }
 
-// What all workers cut, each on a thread of its own where one can be started.
+// What all workers cut, each on a thread of its own if one can be started.
 fn cut_all<R: Threads + Sync>(
     rt: &R,
     alloc: Global,
@@ -104,7 +104,7 @@ fn cut_all<R: Threads + Sync>(
     Ok(shares)
 }
 
-// The shares of all workers, where none found too little memory.
+// The shares of all workers, if none found too little memory.
 fn all_of(alloc: Global, answers: Vec<Result<Share, NoMemory>>) -> Result<Vec<Share>, NoMemory>
     ensures { IfOk result (λ shares. map Ok shares.items ≡ answers.items) }
 {

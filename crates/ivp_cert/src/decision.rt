@@ -6,8 +6,8 @@ ghost use Rattle.ivp_cert.specs.Decisions.{decision_of};
 ghost use Rattle.ivp_cert.specs.Printed.{HasSums};
 
 use crate::claim::Decision;
-use crate::phase::Phase;
-use crate::stage::Stage;
+use crate::phase::DecisionStage;
+use crate::stage::ProblemStage;
 use moos_text::{ReadFault, next_whole_line};
 use std::alloc::Global;
 
@@ -20,7 +20,7 @@ pub fn read_decision(alloc: Global, bytes: &[u8]) -> Result<Decision, ReadFault>
     ensures point { IfOk result (λ decision. IsTrue (is_point decision.problem.axes decision.claim.point)) }
     ensures sums { IfOk result HasSums }
 {
-    let mut phase = Phase::OfProblem(Stage::Start);
+    let mut phase = DecisionStage::OfProblem(ProblemStage::Start);
     let mut lines: u32 = 0;
     let mut left = bytes;
     while let Some((line, rest)) = next_whole_line(left) {

@@ -29,7 +29,7 @@ pub fn certificate_law()
 
 /// What holds of the text of a decision, by the definitions alone: it stands for the decision, so reading what was printed
 /// gives the decision back. It changes nothing, and looks at each part of the decision once: what the type of a part says
-/// of its value is known where the part is at hand.
+/// of its value is known if the part is at hand.
 pub fn printed_law(decision: &Decision, prefix: &[u8])
     requires prefix { IsPrefix prefix.now }
     requires point { IsTrue (is_point decision.now.problem.axes decision.now.claim.point) }

@@ -2,7 +2,7 @@
 //!
 //! The contract for the layer above: `decide` gives the decision on a problem. `cut` gives the certificate of a problem, and
 //! `cut_by_workers` the same by several workers; `accepts` tells whether a certificate is accepted for what is claimed, and then the
-//! claimed point is the best. `read_problem` and `read_decision` give what stands in the bytes, or the first refusal with its line and
+//! claimed point is the best. `read_problem` and `read_decision` give what is in the bytes, or the first refusal with its line and
 //! its cause; `print_decision` writes a decision, `print_decision_by_workers` the same with several workers, and what they write stands for the decision.
 //!
 //! Reading order: `path`, `cert`, `claim`; `trail`, `cutting`, `subtree`, `share`, `by_workers`, `best`, `accept`, `law`; `words`,

@@ -40,7 +40,7 @@ impl Path {
         Ok(Path { numbers })
     }
 
-    /// Adds the number at the end. Where no memory is left it is handed back, and the path stays as it was.
+    /// Adds the number at the end. If no memory is left it is handed back, and the path stays as it was.
     pub fn push(&mut self, number: u32) -> Result<(), u32>
         requires { length self.old < 64 }
         ensures ok { OnOk result (self.new ≡ self.old ++ number ∷ []) }

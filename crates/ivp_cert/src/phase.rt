@@ -10,7 +10,7 @@ ghost use Rattle.ivp_cert.specs.Words.{without_prefix};
 use crate::cert::{Cert, Line};
 use crate::claim::{Claim, Decision, Spelled, are_on, point_at, spelled_in};
 use crate::line::line_of;
-use crate::stage::Stage;
+use crate::stage::ProblemStage;
 use crate::words::content_of;
 use ivp_problem::Problem;
 use moos_text::{Cause, LineFault, ReadFault, next_word};
@@ -18,18 +18,23 @@ use std::alloc::Global;
 
 /// How far the lines of a decision have come.
 #[derive(Drop)]
-pub enum Phase {
+pub enum DecisionStage {
     /// So far in the problem, or to its end.
-    OfProblem(Stage),
+    OfProblem(ProblemStage),
     /// The lines of the certificate so far.
     OfCuts(Decision),
     /// All lines up to `done`.
     Done(Decision),
 }
 
-impl Phase {
+impl DecisionStage {
     /// The phase after one line more, which has this number and is given without its end; or its first refusal.
-    pub fn after_line(self, alloc: Global, number: u32, line: &[u8]) -> Result<Phase, ReadFault>
+    pub fn after_line(
+        self,
+        alloc: Global,
+        number: u32,
+        line: &[u8],
+    ) -> Result<DecisionStage, ReadFault>
         requires { HasPoint self }
         ensures read { IfOk result (λ phase. phase_after number self (words_of (without_prefix (trimmed line.now))) ≡ Ok phase) }
         ensures refused { IfErr result (λ fault. IsFirst fault (phase_after number self (words_of (without_prefix (trimmed line.now))))) }
@@ -41,41 +46,41 @@ impl Phase {
         }
     }
 
-    // The same by the line's first word and what stands behind it.
+    // The same by the line's first word and what follows it.
     fn after_word(
         self,
         alloc: Global,
         number: u32,
         word: &[u8],
         rest: &[u8],
-    ) -> Result<Phase, ReadFault>
+    ) -> Result<DecisionStage, ReadFault>
         requires { HasPoint self }
         ensures read { IfOk result (λ phase. after_first number self word.now (words_of rest.now) ≡ Ok phase) }
         ensures refused { IfErr result (λ fault. IsFirst fault (after_first number self word.now (words_of rest.now))) }
         ensures point { IfOk result HasPoint }
     {
         match self {
-            Phase::OfProblem(stage) => after_stage(alloc, stage, number, word, rest),
-            Phase::OfCuts(decision) => match after_cuts(alloc, decision, word, rest) {
+            DecisionStage::OfProblem(stage) => after_stage(alloc, stage, number, word, rest),
+            DecisionStage::OfCuts(decision) => match after_cuts(alloc, decision, word, rest) {
                 Ok(phase) => Ok(phase),
                 Err(fault) => Err(fault.at(number)),
             },
-            Phase::Done(_) => Err(ReadFault::At {
+            DecisionStage::Done(_) => Err(ReadFault::At {
                 line: number,
                 cause: Cause::P1,
             }),
         }
     }
 
-    /// The decision, where the lines come to `done`; else the last line is refused.
+    /// The decision, if the lines come to `done`; else the last line is refused.
     pub fn whole_decision(self, last: u32) -> Result<Decision, ReadFault>
         requires { HasPoint self }
         ensures whole { result ≡ whole_decision last self }
         ensures point { IfOk result (λ decision. IsTrue (is_point decision.problem.axes decision.claim.point)) }
     {
         match self {
-            Phase::Done(decision) => Ok(decision),
-            Phase::OfProblem(_) | Phase::OfCuts(_) => Err(ReadFault::At {
+            DecisionStage::Done(decision) => Ok(decision),
+            DecisionStage::OfProblem(_) | DecisionStage::OfCuts(_) => Err(ReadFault::At {
                 line: last,
                 cause: Cause::P9,
             }),
@@ -83,37 +88,37 @@ impl Phase {
     }
 }
 
-// In a problem stands one line more of it, and behind its end what was decided.
+// In a problem is one line more of it, and behind its end what was decided.
 fn after_stage(
     alloc: Global,
-    stage: Stage,
+    stage: ProblemStage,
     number: u32,
     word: &[u8],
     rest: &[u8],
-) -> Result<Phase, ReadFault>
+) -> Result<DecisionStage, ReadFault>
     ensures read { IfOk result (λ phase. after_stage number stage word.now (words_of rest.now) ≡ Ok phase) }
     ensures refused { IfErr result (λ fault. IsFirst fault (after_stage number stage word.now (words_of rest.now))) }
     ensures point { IfOk result HasPoint }
 {
     match stage {
-        Stage::Ended(problem) => match after_problem(alloc, problem, word, rest) {
+        ProblemStage::Ended(problem) => match after_problem(alloc, problem, word, rest) {
             Ok(phase) => Ok(phase),
             Err(fault) => Err(fault.at(number)),
         },
         stage => match stage.after_word(alloc, number, word, rest) {
-            Ok(stage) => Ok(Phase::OfProblem(stage)),
+            Ok(stage) => Ok(DecisionStage::OfProblem(stage)),
             Err(fault) => Err(fault),
         },
     }
 }
 
-// Behind the problem stands what was decided.
+// Behind the problem is what was decided.
 fn after_problem(
     alloc: Global,
     problem: Problem,
     word: &[u8],
     rest: &[u8],
-) -> Result<Phase, LineFault>
+) -> Result<DecisionStage, LineFault>
     ensures read { IfOk result (λ phase. after_problem problem word.now (words_of rest.now) ≡ Ok phase) }
     ensures refused { IfErr result (λ fault. IsLineFault fault (after_problem problem word.now (words_of rest.now))) }
     ensures point { IfOk result HasPoint }
@@ -123,7 +128,7 @@ fn after_problem(
     }
     let spelled = spelled_in(alloc, rest)?;
     match claimed(alloc, problem, &spelled) {
-        Ok(decision) => Ok(Phase::OfCuts(decision)),
+        Ok(decision) => Ok(DecisionStage::OfCuts(decision)),
         Err(cause) => Err(LineFault::Refused(cause)),
     }
 }
@@ -155,13 +160,13 @@ fn with_line(mut decision: Decision, line: Line) -> Option<Decision>
     Some(decision)
 }
 
-// In a certificate stands one line more, or its end.
+// In a certificate is one line more, or its end.
 fn after_cuts(
     alloc: Global,
     decision: Decision,
     word: &[u8],
     rest: &[u8],
-) -> Result<Phase, LineFault>
+) -> Result<DecisionStage, LineFault>
     requires { IsTrue (is_point decision.problem.axes decision.claim.point) }
     ensures read { IfOk result (λ phase. after_cuts decision word.now (words_of rest.now) ≡ Ok phase) }
     ensures refused { IfErr result (λ fault. IsLineFault fault (after_cuts decision word.now (words_of rest.now))) }
@@ -170,12 +175,12 @@ fn after_cuts(
     if word == b"cut".as_slice() {
         let line = line_of(alloc, rest)?;
         return match with_line(decision, line) {
-            Some(more) => Ok(Phase::OfCuts(more)),
+            Some(more) => Ok(DecisionStage::OfCuts(more)),
             None => Err(LineFault::NoMemory),
         };
     }
     if word != b"done".as_slice() || next_word(rest).is_some() {
         return Err(LineFault::Refused(Cause::P1));
     }
-    Ok(Phase::Done(decision))
+    Ok(DecisionStage::Done(decision))
 }

@@ -9,7 +9,7 @@ use ivp_domain::BoxN;
 use ivp_func::{MOST_BASE, MOST_SLOPE, Piece};
 use moos_text::next_word;
 
-// Low and high on an axis that is there, and what stands behind the two words.
+// Low and high on an axis that is there, and what follows the two words.
 fn range_of(present: bool, text: &[u8]) -> Option<(u32, u32, &[u8])>
     ensures { MatchOption result (range_of present (words_of text.now) ≡ None)
         (λ range. range_of present (words_of text.now) ≡ Some (record { low = range.0; high = range.1; rest = words_of range.2.now })) }
@@ -22,7 +22,7 @@ fn range_of(present: bool, text: &[u8]) -> Option<(u32, u32, &[u8])>
     Some((place_of(low)?, place_of(high)?, rest))
 }
 
-// The slope along an axis that is there, and what stands behind its word.
+// The slope along an axis that is there, and what follows its word.
 fn slope_of(present: bool, text: &[u8]) -> Option<(i64, &[u8])>
     ensures value { MatchOption result (slope_of present (words_of text.now) ≡ None)
         (λ slope. slope_of present (words_of text.now) ≡ Some (record { slope = slope.0; rest = words_of slope.1.now })) }

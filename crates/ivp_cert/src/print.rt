@@ -15,7 +15,7 @@ use crate::put_problem::put_problem;
 use moos_io::{Buffer, Failed, Sink};
 use moos_text::print_unsigned;
 
-/// Writes a decision, each line behind the prefix. Where the sink fails, it took a front of the text, not the whole.
+/// Writes a decision, each line behind the prefix. If the sink fails, it took a front of the text, not the whole.
 pub fn print_decision<K: Sink>(
     decision: &Decision,
     prefix: &[u8],

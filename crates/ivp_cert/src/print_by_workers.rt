@@ -22,7 +22,7 @@ const CHUNK: usize = 16_384;
 const ROOM: usize = 256 * CHUNK;
 
 /// Writes a decision, each line behind the prefix, as `print_decision` does. The lines of a long certificate are formatted by 1 to 16 workers,
-/// each on a thread of its own where one can be started; where no memory is left for their texts, one after the other.
+/// each on a thread of its own if one can be started; if no memory is left for their texts, one after the other.
 pub fn print_decision_by_workers<R: Threads + Sync, K: Sink>(
     rt: &R,
     alloc: Global,
@@ -73,7 +73,7 @@ fn put_decision<R: Threads + Sync, K: Sink>(
     put(&[prefix, b"done\n"], buffer, out)
 }
 
-// Lines: where there are several workers and chunks, each worker has a chunk at a time.
+// Lines: if there are several workers and chunks, each worker has a chunk at a time.
 fn put_parts<R: Threads + Sync, K: Sink>(
     rt: &R,
     alloc: Global,
@@ -102,7 +102,7 @@ fn put_parts<R: Threads + Sync, K: Sink>(
     Ok(())
 }
 
-// Lines of which each chunk is formatted on a thread of its own, where one can be started.
+// Lines of which each chunk is formatted on a thread of its own, if one can be started.
 fn put_part<R: Threads + Sync, K: Sink>(
     rt: &R,
     alloc: Global,
@@ -136,7 +136,7 @@ fn chunk_of(lines: &[Line], number: usize) -> &[Line]
     chunk
 }
 
-// A chunk of lines, by its text where a worker made it.
+// A chunk of lines, by its text if a worker made it.
 fn put_chunk<K: Sink>(
     prefix: &[u8],
     lines: &[Line],
@@ -154,7 +154,7 @@ fn put_chunk<K: Sink>(
     }
 }
 
-// The text of each chunk, none where memory doesn't do.
+// The text of each chunk, none if memory doesn't do.
 fn texts_of<R: Threads + Sync>(
     rt: &R,
     alloc: Global,
@@ -171,7 +171,7 @@ fn texts_of<R: Threads + Sync>(
     map_chunks(rt, alloc, lines, CHUNK, &make)
 }
 
-// The text of lines, where memory is left and it is no longer than that.
+// The text of lines, if memory is left and it is no longer than that.
 fn text_of(alloc: Global, prefix: &[u8], lines: &[Line]) -> Option<MemSink>
     ensures { IfSome result (λ sink. sink.taken ≡ flat_map (line_text prefix.now) lines.now) }
 {

@@ -79,7 +79,7 @@ fn line_prints(line: &Line)
     let _index = line.index;
 }
 
-/// A certificate prints where its sums are in range: its paths and indices are.
+/// A certificate prints if its sums are in range: its paths and indices are.
 pub fn lines_print(cert: &Cert)
     requires { AllOf (λ (line : Line). line.sum ≤ 64 * 10 ^ 12) cert.now }
     ensures { AllOf IsPrintableLine cert.now }

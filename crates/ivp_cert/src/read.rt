@@ -3,7 +3,7 @@ ghost use Rattle.std.specs.Prelude.{◌≡◌, ◌<◌, ◌^◌, length, Ok, IfO
 ghost use Rattle.moos_text.specs.Refusals.{IsFirst};
 ghost use Rattle.ivp_cert.specs.Problems.{problem_of};
 
-use crate::stage::Stage;
+use crate::stage::ProblemStage;
 use ivp_problem::Problem;
 use moos_text::{ReadFault, next_whole_line};
 use std::alloc::Global;
@@ -14,7 +14,7 @@ pub fn read_problem(alloc: Global, bytes: &[u8]) -> Result<Problem, ReadFault>
     ensures read { IfOk result (λ problem. problem_of bytes.now ≡ Ok problem) }
     ensures refused { IfErr result (λ fault. IsFirst fault (problem_of bytes.now)) }
 {
-    let mut stage = Stage::Start;
+    let mut stage = ProblemStage::Start;
     let mut lines: u32 = 0;
     let mut left = bytes;
     while let Some((line, rest)) = next_whole_line(left) {

@@ -34,7 +34,7 @@ impl Share {
         }
     }
 
-    /// Adds the lines of the first subtree to these and takes them out, where there is one.
+    /// Adds the lines of the first subtree to these and takes them out, if there is one.
     pub(crate) fn give(&mut self, lines: &mut Vec<Line>) -> Result<(), NoMemory>
         ensures lines { OnOk result (lines.new.items ≡ lines.old.items ++ flat_map (λ cut. cut) (take 1 self.old)) }
         ensures rest { OnOk result (self.new ≡ drop 1 self.old) }

@@ -20,7 +20,7 @@ use std::alloc::Global;
 
 /// How far the lines of a problem have come.
 #[derive(Drop)]
-pub enum Stage {
+pub enum ProblemStage {
     /// No line yet but blank ones.
     Start,
     /// The first line, and no axis yet.
@@ -33,9 +33,14 @@ pub enum Stage {
     Ended(Problem),
 }
 
-impl Stage {
+impl ProblemStage {
     /// The stage after one line more, which has this number and is given without its end; or its first refusal.
-    pub fn after_line(self, alloc: Global, number: u32, line: &[u8]) -> Result<Stage, ReadFault>
+    pub fn after_line(
+        self,
+        alloc: Global,
+        number: u32,
+        line: &[u8],
+    ) -> Result<ProblemStage, ReadFault>
         ensures read { IfOk result (λ stage. stage_after number self (words_of (without_prefix (trimmed line.now))) ≡ Ok stage) }
         ensures refused { IfErr result (λ fault. IsFirst fault (stage_after number self (words_of (without_prefix (trimmed line.now))))) }
     {
@@ -45,33 +50,39 @@ impl Stage {
         }
     }
 
-    /// The same by the line's first word and what stands behind it.
+    /// The same by the line's first word and what follows it.
     pub fn after_word(
         self,
         alloc: Global,
         number: u32,
         word: &[u8],
         rest: &[u8],
-    ) -> Result<Stage, ReadFault>
+    ) -> Result<ProblemStage, ReadFault>
         ensures read { IfOk result (λ stage. after_word number self word.now (words_of rest.now) ≡ Ok stage) }
         ensures refused { IfErr result (λ fault. IsFirst fault (after_word number self word.now (words_of rest.now))) }
     {
         match self {
-            Stage::Start => at_line(number, after_start(word, rest)),
-            Stage::Begun => at_line(number, after_begun(word, rest)),
-            Stage::Axes(domain) => at_line(number, after_axes(alloc, &domain, number, word, rest)),
-            Stage::Functions(sum) => after_functions(alloc, sum, number, word, rest),
-            Stage::Ended(_) => at_line(number, Err(Cause::P1)),
+            ProblemStage::Start => at_line(number, after_start(word, rest)),
+            ProblemStage::Begun => at_line(number, after_begun(word, rest)),
+            ProblemStage::Axes(domain) => at_line(
+                number,
+                after_axes(alloc, &domain, number, word, rest),
+            ),
+            ProblemStage::Functions(sum) => after_functions(alloc, sum, number, word, rest),
+            ProblemStage::Ended(_) => at_line(number, Err(Cause::P1)),
         }
     }
 
-    /// The problem, where the lines come to `end`; else the last line is refused.
+    /// The problem, if the lines come to `end`; else the last line is refused.
     pub fn whole_problem(self, last: u32) -> Result<Problem, ReadFault>
         ensures { result ≡ whole_problem last self }
     {
         match self {
-            Stage::Ended(problem) => Ok(problem),
-            Stage::Start | Stage::Begun | Stage::Axes(_) | Stage::Functions(_) => {
+            ProblemStage::Ended(problem) => Ok(problem),
+            ProblemStage::Start
+            | ProblemStage::Begun
+            | ProblemStage::Axes(_)
+            | ProblemStage::Functions(_) => {
                 Err(ReadFault::At {
                     line: last,
                     cause: Cause::P9,
@@ -82,7 +93,7 @@ impl Stage {
 }
 
 // A refusal of the line with this number.
-fn at_line(line: u32, outcome: Result<Stage, Cause>) -> Result<Stage, ReadFault>
+fn at_line(line: u32, outcome: Result<ProblemStage, Cause>) -> Result<ProblemStage, ReadFault>
     ensures { result ≡ at_line line outcome }
 {
     match outcome {
@@ -92,7 +103,7 @@ fn at_line(line: u32, outcome: Result<Stage, Cause>) -> Result<Stage, ReadFault>
 }
 
 // The first line that isn't blank is `ivp 1`.
-fn after_start(word: &[u8], rest: &[u8]) -> Result<Stage, Cause>
+fn after_start(word: &[u8], rest: &[u8]) -> Result<ProblemStage, Cause>
     ensures { result ≡ after_start word.now (words_of rest.now) }
 {
     let Some((one, rest)) = next_word(rest) else {
@@ -102,40 +113,40 @@ fn after_start(word: &[u8], rest: &[u8]) -> Result<Stage, Cause>
         return Err(Cause::P1);
     }
     if word == b"ivp".as_slice() && one == b"1".as_slice() {
-        Ok(Stage::Begun)
+        Ok(ProblemStage::Begun)
     } else {
         Err(Cause::P1)
     }
 }
 
-// Behind the first line stands an axis.
-fn after_begun(word: &[u8], rest: &[u8]) -> Result<Stage, Cause>
+// Behind the first line is an axis.
+fn after_begun(word: &[u8], rest: &[u8]) -> Result<ProblemStage, Cause>
     ensures { result ≡ after_begun word.now (words_of rest.now) }
 {
     if word == b"domain".as_slice() {
         let domain = with_domain(&[], rest)?;
-        Ok(Stage::Axes(domain))
+        Ok(ProblemStage::Axes(domain))
     } else {
         Err(Cause::P1)
     }
 }
 
-// Behind an axis stands another one, a function or the end.
+// Behind an axis is another one, a function or the end.
 fn after_axes(
     alloc: Global,
     domain: &Domain,
     number: u32,
     word: &[u8],
     rest: &[u8],
-) -> Result<Stage, Cause>
+) -> Result<ProblemStage, Cause>
     ensures { result ≡ after_axes domain.now number word.now (words_of rest.now) }
 {
     if word == b"domain".as_slice() {
         let domain = with_domain(domain.all(), rest)?;
-        Ok(Stage::Axes(domain))
+        Ok(ProblemStage::Axes(domain))
     } else if word == b"function".as_slice() {
         let sum = with_function(alloc, Terms::new(alloc, *domain), number, rest)?;
-        Ok(Stage::Functions(sum))
+        Ok(ProblemStage::Functions(sum))
     } else if word == b"end".as_slice() {
         Err(ended_early(rest))
     } else {
@@ -143,41 +154,41 @@ fn after_axes(
     }
 }
 
-// In a function stands a piece of it, or another function or the end, which finish it first.
+// In a function is a piece of it, or another function or the end, which finish it first.
 fn after_functions(
     alloc: Global,
     sum: Unfinished,
     number: u32,
     word: &[u8],
     rest: &[u8],
-) -> Result<Stage, ReadFault>
+) -> Result<ProblemStage, ReadFault>
     ensures read { IfOk result (λ stage. after_functions sum number word.now (words_of rest.now) ≡ Ok stage) }
     ensures refused { IfErr result (λ fault. IsFirst fault (after_functions sum number word.now (words_of rest.now))) }
 {
     if word == b"piece".as_slice() {
         return match with_piece(sum, rest) {
-            Ok(sum) => Ok(Stage::Functions(sum)),
+            Ok(sum) => Ok(ProblemStage::Functions(sum)),
             Err(fault) => Err(fault.at(number)),
         };
     }
     if word == b"function".as_slice() {
         let before = sum.finished(alloc)?;
         return match with_function(alloc, before, number, rest) {
-            Ok(sum) => Ok(Stage::Functions(sum)),
+            Ok(sum) => Ok(ProblemStage::Functions(sum)),
             Err(cause) => at_line(number, Err(cause)),
         };
     }
     if word == b"end".as_slice() {
         let whole = sum.finished(alloc)?;
         return match nothing_behind(whole, rest) {
-            Ok(problem) => Ok(Stage::Ended(problem)),
+            Ok(problem) => Ok(ProblemStage::Ended(problem)),
             Err(cause) => at_line(number, Err(cause)),
         };
     }
     at_line(number, Err(Cause::P1))
 }
 
-// What stands behind `domain` is one word.
+// What follows `domain` is one word.
 fn with_domain(axes: &[Axis], rest: &[u8]) -> Result<Domain, Cause>
     ensures { result ≡ with_domain axes.now (words_of rest.now) }
 {
@@ -206,7 +217,7 @@ fn with_axis(axes: &[Axis], axis: Axis) -> Result<Domain, Cause>
     }
 }
 
-// What stands behind `function` is one word; a 65th function is refused, and a weight out of range.
+// What follows `function` is one word; a 65th function is refused, and a weight out of range.
 fn with_function(alloc: Global, before: Terms, line: u32, rest: &[u8]) -> Result<Unfinished, Cause>
     ensures { result ≡ with_function before line (words_of rest.now) }
 {
@@ -261,7 +272,7 @@ fn with_piece(sum: Unfinished, rest: &[u8]) -> Result<Unfinished, LineFault>
     }
 }
 
-// No word stands behind `end`.
+// No word follows `end`.
 fn nothing_behind(whole: Terms, rest: &[u8]) -> Result<Problem, Cause>
     requires { 0 < length whole.terms }
     ensures { result ≡ nothing_behind whole (words_of rest.now) }

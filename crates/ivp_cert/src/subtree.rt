@@ -59,7 +59,7 @@ fn next_level(
     Ok(deeper)
 }
 
-// Adds the subtrees of a node's children, in piece order, or the node's own where its own line is due or it has full depth.
+// Adds the subtrees of a node's children, in piece order, or the node's own if its own line is due or it has full depth.
 fn add_below(
     problem: &Problem,
     key: Key,

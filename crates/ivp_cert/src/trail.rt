@@ -4,7 +4,7 @@ ghost use Rattle.std.specs.Prelude.{◌≡◌, ◌<◌, ◌≤◌, ◌++◌, ◌
 use ivp_problem::MOST_FUNCTIONS;
 use std::marker::Model;
 
-/// The path of the node at which a walk over a tree stands. It takes no memory. Contracts see its numbers.
+/// The path of the node at which a walk over a tree is. It takes no memory. Contracts see its numbers.
 #[derive(Drop)]
 pub struct Trail {
     numbers: [u32; MOST_FUNCTIONS],

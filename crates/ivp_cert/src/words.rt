@@ -32,7 +32,7 @@ fn are_digits(word: &[u8]) -> bool
     word.iter().all(|byte| byte.is_ascii_digit())
 }
 
-// The number that digits spell, or one above the greatest that is allowed where it is more than that.
+// The number that digits spell, or one above the greatest that is allowed if it is more than that.
 #[tactic(auto, using(moos_text::proofs::Numerals::value_more))]
 fn capped_value(digits: &[u8], most: u64) -> u64
     requires digits { list_all is_digit digits.now ≡ true }

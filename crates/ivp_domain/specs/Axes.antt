@@ -14,6 +14,6 @@ is_good_axis axis = nat_le 2 axis.points && int_lt axis.low axis.high && is_end 
 abbrev pub value_on : Axis → ℕ → ℤ
 value_on axis place = axis.low +ℤ pos (place * nat_abs (axis.high -ℤ axis.low) / (axis.points - 1))
 
--- what stands past the last axis: an axis of one point
+-- what is past the last axis: an axis of one point
 abbrev pub no_axis : Axis
 no_axis = record { name = 120 ∷ []; low = pos 0; high = pos 1; points = 1 }

@@ -56,6 +56,6 @@ common a b =
           ∷ min (slice_index a.high 2) (slice_index b.high 2) ∷ min (slice_index a.high 3) (slice_index b.high 3) ∷ [];
     }
 
--- the box of the common points, where there are any
+-- the box of the common points, if there are any
 abbrev pub meet_of : BoxN → BoxN → Option BoxN
 meet_of a b = if is_box (common a b) then Some (common a b) else None

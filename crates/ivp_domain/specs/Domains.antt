@@ -10,7 +10,7 @@ use Rattle.ivp_domain.specs.declared.domain.DomainFault.TheVariants.{BadAxis, To
 use Rattle.ivp_domain.specs.Axes.{is_good_axis}
 use Rattle.ivp_domain.specs.Boxes.{has_point, points_in}
 
--- the points of an axis, one where there is no axis
+-- the points of an axis, one if there is no axis
 abbrev pub size_of_axis : Option Axis → ℕ
 size_of_axis None = 1
 size_of_axis (Some axis) = axis.points
@@ -52,7 +52,7 @@ bad_axis axes = position (λ axis. not (is_good_axis axis)) axes
 abbrev pub same_name : Axis → Axis → Bool
 same_name a b = bytes_eq a.name b.name
 
--- the place of the first axis named as one before it, where `past` stands before these
+-- the place of the first axis named as one before it, if `past` is before these
 abbrev pub repeated_after : List Axis → List Axis → Option ℕ
 repeated_after past [] = None
 repeated_after past (axis ∷ axes) = if list_any (same_name axis) past then Some (length past) else repeated_after (past ++ axis ∷ []) axes

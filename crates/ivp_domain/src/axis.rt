@@ -52,7 +52,7 @@ fn axis_name(bytes: &[u8]) -> bool
 }
 
 impl AxisName {
-    /// The name that these bytes spell. `None` exactly where they are no name of an axis.
+    /// The name that these bytes spell. `None` exactly if they are no name of an axis.
     pub fn new(bytes: &[u8]) -> Option<AxisName>
         ensures name { IsSome result ↔ IsTrue (is_axis_name bytes.now) }
         ensures bytes { IfSome result (λ name. name ≡ bytes.now) }
@@ -133,7 +133,7 @@ pub(crate) fn number_at(axis: &Axis, place: u32) -> i64
     axis.low + part_of(span_of(axis), place, axis.points) as i64
 }
 
-/// What stands past the last axis of a domain: an axis of one point.
+/// What is past the last axis of a domain: an axis of one point.
 pub(crate) fn filler() -> Axis
     ensures { result ≡ no_axis }
 {

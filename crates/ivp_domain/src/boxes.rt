@@ -45,7 +45,7 @@ fn common(a: &BoxN, b: &BoxN) -> BoxN
     }
 }
 
-/// The common points of two boxes, as a box. `None` exactly where they share none.
+/// The common points of two boxes, as a box. `None` exactly if they share none.
 pub fn meet(a: &BoxN, b: &BoxN) -> Option<BoxN>
     ensures exact { result ≡ meet_of a.now b.now }
     ensures proper { IfSome result (λ area. IsTrue (is_box area)) }

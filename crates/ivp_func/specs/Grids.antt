@@ -12,7 +12,7 @@ use Rattle.ivp_func.specs.declared.piece.Piece.{Piece}
 abbrev pub share : BoxN → BoxN → Bool
 share a b = is_box (common a b)
 
--- this piece's box shares a point with the area, where there is one
+-- this piece's box shares a point with the area, if there is one
 abbrev pub meets_piece : BoxN → Option Piece → Bool
 meets_piece area None = false
 meets_piece area (Some piece) = share area piece.area

@@ -23,7 +23,7 @@ kept_places axes pieces = kept_to 0 (last_on 0 axes) pieces ∷ kept_to 1 (last_
 abbrev pub kept_axes : List Axis → List Piece → List Axis
 kept_axes axes pieces = axes_to (length axes) (kept_places axes pieces)
 
--- the area, where each place past the last one of its axis is that last one
+-- the area, if each place past the last one of its axis is that last one
 abbrev pub clipped : List Axis → BoxN → BoxN
 clipped axes area =
     record {

@@ -28,7 +28,7 @@ piece_has point piece = has_point piece.area point
 abbrev pub count_at : List Piece → Point → ℕ
 count_at pieces point = count_by (piece_has point) pieces
 
--- the value of this piece, where there is one
+-- the value of this piece, if there is one
 abbrev pub value_in : Option Piece → Point → ℤ
 value_in None point = pos 0
 value_in (Some piece) point = piece_value piece point
@@ -59,11 +59,11 @@ is_base number = int_le (neg_ℤ (pos (10 ^ 14))) number && int_le number (pos (
 abbrev pub is_small : Piece → Bool
 is_small piece = is_base piece.base && is_slope (slope_on 0 piece) && is_slope (slope_on 1 piece) && is_slope (slope_on 2 piece) && is_slope (slope_on 3 piece)
 
--- no slope, where the domain has no such axis
+-- no slope, if the domain has no such axis
 abbrev pub is_flat_past : List Axis → ℕ → Piece → Bool
 is_flat_past axes axis piece = nat_lt axis (length axes) || (int_le (pos 0) (slope_on axis piece) && int_le (slope_on axis piece) (pos 0))
 
--- the piece may stand in a function over the domain
+-- the piece may be in a function over the domain
 abbrev pub is_piece_of : List Axis → Piece → Bool
 is_piece_of axes piece = is_box_of axes piece.area && is_small piece && is_flat_past axes 1 piece && is_flat_past axes 2 piece && is_flat_past axes 3 piece
 

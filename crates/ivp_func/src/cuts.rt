@@ -119,7 +119,7 @@ impl Cuts {
         self.runs[0] * self.runs[1] * self.runs[2] * self.runs[3]
     }
 
-    /// How many cells, one behind the other, are made together: those of one run of the first axis, or, where no other axis
+    /// How many cells, one behind the other, are made together: those of one run of the first axis, or, if no other axis
     /// has two runs, sixteen.
     pub(crate) fn cells_a_row(&self) -> usize
         ensures some { 0 < result }
@@ -173,7 +173,7 @@ impl Cuts {
         }
     }
 
-    /// The area, where each place past the last one of its axis is that last one.
+    /// The area, if each place past the last one of its axis is that last one.
     pub(crate) fn clip(&self, area: &BoxN) -> BoxN
         ensures { result ≡ clipped self.now area.now }
     {

@@ -60,7 +60,7 @@ fn is_small(piece: &Piece) -> bool
     begins_small(piece) && is_slope(piece.slope[2]) && is_slope(piece.slope[3])
 }
 
-/// There is no slope where the domain has no such axis.
+/// There is no slope if the domain has no such axis.
 fn is_flat_past(domain: &Domain, axis: u32, piece: &Piece) -> bool
     requires { axis < 4 }
     ensures { result ≡ is_flat_past domain.now axis piece.now }
@@ -68,7 +68,7 @@ fn is_flat_past(domain: &Domain, axis: u32, piece: &Piece) -> bool
     axis < domain.axes() || (0 <= piece.slope[axis as usize] && piece.slope[axis as usize] <= 0)
 }
 
-/// Whether the piece may stand in a function over the domain: its box lies in the domain and has
+/// Whether the piece may be in a function over the domain: its box lies in the domain and has
 /// points, its base is within -10^14 to 10^14, and its slopes are within -100,000 to 100,000 and 0
 /// past the last axis.
 pub fn is_piece_of(domain: &Domain, piece: &Piece) -> bool

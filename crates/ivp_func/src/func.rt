@@ -69,8 +69,8 @@ pub fn func_law(func: &Func)
 
 impl Func {
     /// The function of these pieces over the domain, or the first refusal: `TooMany` above 4,096
-    /// pieces; `NotPartition` where some point lies in no piece or in several; `ValueOut` where a
-    /// value is outside 0 to 100,000; `NoMemory` where none is left for the grid. The pieces are kept
+    /// pieces; `NotPartition` if some point lies in no piece or in several; `ValueOut` if a
+    /// value is outside 0 to 100,000; `NoMemory` if none is left for the grid. The pieces are kept
     /// as they are given.
     pub fn make(alloc: Global, domain: &Domain, pieces: Vec<Piece>) -> Result<Func, FuncFault>
         requires { IsTrue (are_pieces_of domain.now pieces.items) }
@@ -115,7 +115,7 @@ impl Func {
     }
 
     /// An equal one, which has the same pieces and the same grid and not others like them. It takes no memory, and fails only
-    /// where some 2^63 share them already.
+    /// if some 2^63 share them already.
     pub fn share(&self) -> Result<Func, AllocError>
         ensures { IfOk result (λ func. func ≡ self.now) }
     {
@@ -169,7 +169,7 @@ impl Func {
     }
 
     /// How many cells the grid has. Each axis is cut from place 0 on into runs of `ceil(points / c)`
-    /// places, the last shorter, where c is 256, 16, 6 or 4 for one, two, three or four axes; a cell
+    /// places, the last shorter, if c is 256, 16, 6 or 4 for one, two, three or four axes; a cell
     /// is one run of each axis.
     pub fn cells(&self) -> u32
         ensures { result ≡ cells_of self.now.axes }
@@ -196,7 +196,7 @@ impl Func {
     }
 
     /// The least number from `from` on of a piece whose box shares a point with the area. `None`
-    /// exactly where there is none.
+    /// exactly if there is none.
     pub fn next_meet(&self, area: &BoxN, from: u32) -> Option<u32>
         requires { IsTrue (is_box_of self.now.axes area.now) }
         ensures some { IfSome result (λ number. (from ≤ number) × (number < length self.now.pieces) × IsTrue (meets self.now.pieces area.now number)) }

@@ -14,7 +14,7 @@ use crate::piece::Piece;
 use ivp_domain::{BoxN, Domain, Point};
 use std::alloc::{AllocError, Global};
 
-/// A cell: its box, and from where to where the numbers of its pieces stand in the grid.
+/// A cell: its box, and from where to where the numbers of its pieces are in the grid.
 #[derive(Debug, Drop)]
 pub(crate) struct Cell {
     area: BoxN,
@@ -31,7 +31,7 @@ pub(crate) struct Grid {
     numbers: Vec<u32>,
 }
 
-/// Where an area may lie in more cells than this, the pieces are looked at in order: it is large, and the next one is near.
+/// If an area may lie in more cells than this, the pieces are looked at in order: it is large, and the next one is near.
 const FEW_CELLS: usize = 128;
 
 /// So many pieces are looked at in order as fast as one cell.
@@ -132,7 +132,7 @@ fn hull(one: &BoxN, other: &BoxN) -> BoxN
     }
 }
 
-/// What is near the cells from one, whose box is given, to the last one that stands in its row.
+/// What is near the cells from one, whose box is given, to the last one that is in its row.
 fn near_row(
     alloc: Global,
     cuts: &Cuts,
@@ -155,7 +155,7 @@ fn near_row(
     Ok(Near { around, numbers })
 }
 
-/// What is near a cell, whose box is given: the same as before where the cell lies there, or else what is near its row from
+/// What is near a cell, whose box is given: the same as before if the cell lies there, or else what is near its row from
 /// it on.
 fn near_cell(
     alloc: Global,
@@ -313,7 +313,7 @@ fn next_in_order(pieces: &[Piece], area: &BoxN, from: u32) -> u32
     pieces.len() as u32
 }
 
-/// The same by the cells of the area, where these are few and the pieces many.
+/// The same by the cells of the area, if these are few and the pieces many.
 fn next_of(grid: Option<&Grid>, pieces: &[Piece], area: &BoxN, from: u32) -> u32
     requires grid { IfSome grid (λ grid. HasArea pieces.now area.now grid.now) }
     requires few { length pieces.now ≤ 4096 }
@@ -333,7 +333,7 @@ fn next_of(grid: Option<&Grid>, pieces: &[Piece], area: &BoxN, from: u32) -> u32
     next_in_order(pieces, area, from)
 }
 
-/// The least number from `from` on of a piece that shares a point with the area. `None` exactly where there is none.
+/// The least number from `from` on of a piece that shares a point with the area. `None` exactly if there is none.
 pub(crate) fn next_meet(
     grid: Option<&Grid>,
     pieces: &[Piece],

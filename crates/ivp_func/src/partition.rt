@@ -44,7 +44,7 @@ fn shared_point(a: &Piece, b: &Piece) -> Point
     }
 }
 
-/// A point that several pieces hold: none, where no piece meets one behind it.
+/// A point that several pieces hold: none, if no piece meets one behind it.
 fn overlap(pieces: &[Piece], grid: Option<&Grid>) -> Option<Point>
     requires few { length pieces.now ≤ 4096 }
     requires grid { IfSome grid (λ grid. HasPieces pieces.now grid.now) }
@@ -124,7 +124,7 @@ fn halves(area: &BoxN, axis: usize) -> (BoxN, BoxN)
     (left, right)
 }
 
-/// A half of the box that is covered short, where the box is.
+/// A half of the box that is covered short, if the box is.
 fn short_half(area: &BoxN, axis: usize, pieces: &[Piece]) -> BoxN
     requires axis { axis < 4 }
     requires wide { slice_index area.now.low axis < slice_index area.now.high axis }
@@ -138,7 +138,7 @@ fn short_half(area: &BoxN, axis: usize, pieces: &[Piece]) -> BoxN
     if is_short(&left, pieces) { left } else { right }
 }
 
-/// A point of a box that no piece holds, where the pieces cover less than the box has: the box is
+/// A point of a box that no piece holds, if the pieces cover less than the box has: the box is
 /// halved until one point is left.
 fn gap(area: BoxN, pieces: &[Piece]) -> Point
     requires proper { IsTrue (is_box area) }

@@ -11,7 +11,7 @@ use ivp_domain::{Domain, Point};
 /// The greatest value that a function may have.
 const MOST: i64 = 100_000;
 
-/// The value at a point: that of the first piece that holds it, 0 where none does.
+/// The value at a point: that of the first piece that holds it, 0 if none does.
 pub(crate) fn value_at(domain: &Domain, pieces: &[Piece], point: &Point) -> i64
     requires { IsTrue (are_pieces_of domain.now pieces.now) }
     ensures { result ≡ value_at pieces.now point.now }

@@ -7,7 +7,7 @@ use Rattle.ivp_problem.specs.Sums.{key_at}
 use Rattle.ivp_problem.specs.Trees.{has_in}
 use Rattle.ivp_pool.specs.Parts.{handed_within, IsPart, Incumbent, Outdoes, TreePart, Handed, part_size}
 
--- what a tray has taken after a push: the node at the end, or as before, where the node came back
+-- what a tray has taken after a push: the node at the end, or as before, if the node came back
 abbrev pub Pushed : List Node → List Node → Node → Option Node → Type 0
 Pushed took took' node None = took' ≡ took ++ node ∷ []
 Pushed took took' node (Some back) = (back ≡ node) × (took' ≡ took)

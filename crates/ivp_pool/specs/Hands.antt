@@ -1,4 +1,4 @@
--- A worker's deque of nodes: what each who uses it has put there and taken from it, and the rule that it stands under.
+-- A worker's deque of nodes: what each who uses it has put there and taken from it, and the rule that it is under.
 use Rattle.std.specs.Prelude.{◌≡◌, ℕ, ◌+◌, List, [], ◌++◌}
 use Rattle.std.specs.Global.{Global}
 use Rattle.std.specs.List.{sum_by, AllByRecursion as Each}
@@ -16,7 +16,7 @@ hand parts put taken = record { parts = parts; put = put; taken = taken }
 abbrev pub IsIdleEmpty : Hand → Type 0
 IsIdleEmpty held = held.parts ≡ 0 → (held.put ≡ []) × (held.taken ≡ [])
 
--- the rule of a deque: what was put is what was taken and what stands there, each once, so whatever nodes weigh the sums agree; what stands there are nodes of the problem's tree
+-- the rule of a deque: what was put is what was taken and what is there, each once, so whatever nodes weigh the sums agree; what is there are nodes of the problem's tree
 pub record IsBalanced (problem : WeightedSum) (nodes : List Node) (hands : List Hand) : Type 0 where
   pub parts : sum_by (λ held. held.parts) hands ≡ 1024
   pub each_once : (weigh : Node → ℕ) → sum_by (λ held. sum_by weigh held.put) hands ≡ sum_by (λ held. sum_by weigh held.taken) hands + sum_by weigh nodes
@@ -32,7 +32,7 @@ pub record EndState : Type 0 where
 abbrev pub AreTaken : WeightedSum → Hand → List Node → Hand → Type 0
 AreTaken problem held nodes after = (after ≡ hand held.parts held.put (held.taken ++ nodes)) × Each (IsNode problem) nodes
 
--- where it has all parts, all that was put was taken, each once
+-- if it has all parts, all that was put was taken, each once
 abbrev pub IsSettled : Hand → Type 0
 IsSettled held = held.parts ≡ 1024 → (weigh : Node → ℕ) → sum_by weigh held.put ≡ sum_by weigh held.taken
 

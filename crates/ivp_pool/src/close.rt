@@ -25,9 +25,9 @@ fn is_outdone(low: u64, own: Option<Key>, bound: Key) -> bool
     bound.sum < low || reaches(own, bound)
 }
 
-/// Closes a node. It looks at the word first: where the node's bound's sum is below the sum there, or the bound is at most
+/// Closes a node. It looks at the word first: if the node's bound's sum is below the sum there, or the bound is at most
 /// the worker's own key, nothing below it can be better, and it is pruned. At full depth the sum of its best point is
-/// offered, and its key becomes the own key where that is less. Else each child goes to the tray, pieces in order, and one
+/// offered, and its key becomes the own key if that is less. Else each child goes to the tray, pieces in order, and one
 /// that comes back is closed at once. The answer is how many nodes were closed. It takes no memory of its own and doesn't
 /// wait.
 pub fn close_one<T: Tray>(

@@ -76,7 +76,7 @@ impl<K: About> Deque<K> {
         Ok(Door { thief, pass })
     }
 
-    /// Puts a node at the back, or gives it back where no memory is left.
+    /// Puts a node at the back, or gives it back if no memory is left.
     pub(crate) fn put(&mut self, node: Node) -> Option<Node>
         requires { IsNode K.problem node }
         ensures { MatchOption result (self.new ≡ record { deque = self.old.deque; hand = hand self.old.hand.parts (self.old.hand.put ++ node ∷ []) self.old.hand.taken }) (λ back. (back ≡ node) × (self.new ≡ self.old)) }
@@ -84,7 +84,7 @@ impl<K: About> Deque<K> {
         self.ends.push_as::<Puts>(node).err()
     }
 
-    /// Takes the node that was put last. `None` where none stood there at one moment.
+    /// Takes the node that was put last. `None` if none stood there at one moment.
     pub(crate) fn pop(&mut self) -> Option<Node>
         ensures { MatchOption result ((self.new ≡ self.old) × IsSettled self.old.hand) (λ node. IsNode K.problem node × (self.new ≡ record { deque = self.old.deque; hand = hand self.old.hand.parts self.old.hand.put (self.old.hand.taken ++ node ∷ []) })) }
     {
@@ -107,7 +107,7 @@ impl<K: About> Tray for Deque<K> {
 
     ghost kept = { λ own. Some (record { deque = own.deque; hand = hand own.hand.parts [] own.hand.taken }) };
 
-    /// Where enough nodes wait it gives the node back, so that the worker closes it at once: a deque's push and pop take longer
+    /// If enough nodes wait it gives the node back, so that the worker closes it at once: a deque's push and pop take longer
     /// than to close a small node.
     fn push(&mut self, node: Node) -> Option<Node> {
         if self.ends.len_as::<Glance>() >= ENOUGH {
@@ -118,7 +118,7 @@ impl<K: About> Tray for Deque<K> {
 }
 
 impl<K: About> Door<K> {
-    /// Steals the node that was put first. It looks again where another took that one meanwhile. `None` where none stood there
+    /// Steals the node that was put first. It looks again if another took that one meanwhile. `None` if none stood there
     /// at one moment, or one that the worker was just taking.
     pub(crate) fn steal<R: Wait>(&mut self, rt: &R) -> Option<Node>
         ensures { MatchOption result (self.new ≡ self.old) (λ node. IsNode K.problem node × (self.new ≡ record { deque = self.old.deque; hand = hand self.old.hand.parts self.old.hand.put (self.old.hand.taken ++ node ∷ []) })) }

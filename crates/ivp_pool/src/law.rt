@@ -9,8 +9,8 @@ ghost use Rattle.ivp_problem.specs.Trees.{has_in, IsNode, root_of};
 ghost use Rattle.ivp_pool.specs.Parts.{Handed, handed_within, IsPart, Incumbent, KnowsMore, Outdoes, TreePart, part_size};
 ghost use Rattle.ivp_pool.specs.Tallies.{AreLinked, IsTally, IsWholeTree, Tally};
 
-/// What holds of the parts of a node: one stays a part where more is known; it has each point of the node that is still
-/// wanted in a node that was handed to others; where the node itself wasn't handed, these are deeper nodes of the tree; and
+/// What holds of the parts of a node: one stays a part if more is known; it has each point of the node that is still
+/// wanted in a node that was handed to others; if the node itself wasn't handed, these are deeper nodes of the tree; and
 /// a part is small. It does nothing.
 pub fn parts_law()
     ensures raised { (problem : WeightedSum) (node : Node) (low high : Incumbent) (part : TreePart) → KnowsMore low high → IsPart problem low node part → IsPart problem high node part }
@@ -19,7 +19,7 @@ pub fn parts_law()
     ensures few { (problem : WeightedSum) (node : Node) (low : Incumbent) (part : TreePart) → IsProblem problem → IsNode problem node → IsPart problem low node part → part_size part ≤ 65 * 2 ^ 28 }
 {}
 
-/// What holds of the calls that closed nodes, whoever made them: where their nodes are the root and all handed nodes, each
+/// What holds of the calls that closed nodes, whoever made them: if their nodes are the root and all handed nodes, each
 /// once, and each call's part is one for this key, they are together one part of the whole tree. It does nothing.
 pub fn tally_law()
     ensures { (problem : WeightedSum) (key : Incumbent) (tallies : List Tally) → IsProblem problem → ((place : ℕ) (tally : Tally) → slice_get tallies place ≡ Some tally → IsTally problem key tally) → AreLinked problem (root_of problem ∷ []) tallies → IsWholeTree problem key tallies }

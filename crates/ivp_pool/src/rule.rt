@@ -1,4 +1,4 @@
-//! The rule of a worker's deque: what was put is what was taken and what stands there, each once.
+//! The rule of a worker's deque: what was put is what was taken and what is there, each once.
 use crossbeam_deque::protocol::{Join, Lesson, Outcome, Protocol, Split};
 use ivp_problem::Node;
 use std::collections::LinkedList;

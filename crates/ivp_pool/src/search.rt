@@ -55,7 +55,7 @@ fn deal<K: About, G: Gate>(
     }
 }
 
-/// Lets all members work, on a thread of its own each where one can be started. From one that is alone nobody would steal,
+/// Lets all members work, on a thread of its own each if one can be started. From one that is alone nobody would steal,
 /// so its nodes need no way through a deque: what it was dealt is left for the end, where each child is closed at once.
 fn work_all<K: About + Send + Sync, R: Threads + Wait + Sync, G: Gate>(
     rt: &R,

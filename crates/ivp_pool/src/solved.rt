@@ -31,9 +31,9 @@ pub struct Solved {
 }
 
 /// Finds the best point of a problem by 1 to 16 workers. Worker 0 closes the root, whose child `k` is dealt to worker `k`
-/// modulo the number of workers. Then each worker, on a thread of its own where one can be started, closes the nodes of its
-/// deque, to which their children go, and steals from the others when it has none; a child is closed at once where 16 nodes
-/// wait there already or no memory is found for it, as each is where one worker is alone. They share the greatest sum that any
+/// modulo the number of workers. Then each worker, on a thread of its own if one can be started, closes the nodes of its
+/// deque, to which their children go, and steals from the others when it has none; a child is closed at once if 16 nodes
+/// wait there already or no memory is found for it, as each is if one worker is alone. They share the greatest sum that any
 /// of them knows, and each keeps the greatest key that it found; the greatest of these is the best one. The gate is told before each call for a worker's node. `Err` is want of memory for the word, for the workers, their deques or their counts.
 pub fn solve<R: Threads + Wait + Sync, G: Gate>(
     rt: &R,

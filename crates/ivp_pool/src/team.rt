@@ -103,7 +103,7 @@ pub(crate) fn close_next<T: Tray, G: Gate>(
     worker.work.closed = worker.work.closed.wrapping_add(closed);
 }
 
-/// The node that a worker steals: the first of another's deque, where the others are asked by their numbers, beginning with
+/// The node that a worker steals: the first of another's deque, if the others are asked by their numbers, beginning with
 /// the next.
 fn stolen_node<K: About, R: Wait>(rt: &R, number: usize, member: &mut Member<K>) -> Option<Node>
     requires number { number < length member.old.doors.items }

@@ -16,7 +16,7 @@ pub trait Tray {
     /// The nodes that it has taken so far, in order.
     ghost took: { Self → List Node };
 
-    /// Where it is a worker's deque: which one, and what else the worker did there. No push changes it.
+    /// If it is a worker's deque: which one, and what else the worker did there. No push changes it.
     ghost kept: { Self → Option EndState } = { λ _. None };
 
     /// Takes the node, or gives it back.

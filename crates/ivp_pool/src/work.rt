@@ -35,7 +35,7 @@ impl Works {
         }
     }
 
-    /// Adds what a worker did at the end. Where no memory is left it is handed back, and the list stays as it was.
+    /// Adds what a worker did at the end. If no memory is left it is handed back, and the list stays as it was.
     pub fn push(&mut self, work: Work) -> Result<(), Work>
         ensures ok { OnOk result (self.new ≡ self.old ++ work ∷ []) }
         ensures same { OnErr result (self.new ≡ self.old) }

@@ -26,11 +26,11 @@ sum_at problem point = weighted_sum problem.terms point
 abbrev pub key_at : WeightedSum → Point → Key
 key_at problem point = key_of (sum_at problem point) (index_of problem.axes point)
 
--- the greatest of these numbers, one for each point; 0 where there is no point
+-- the greatest of these numbers, one for each point; 0 if there is no point
 abbrev pub greatest : (Point → ℕ) → List Point → ℕ
 greatest number points = fold (λ most point. max most (number point)) 0 points
 
--- the least of these numbers, one for each point; 0 where there is no point
+-- the least of these numbers, one for each point; 0 if there is no point
 abbrev pub least : (Point → ℕ) → List Point → ℕ
 least number [] = 0
 least number (first ∷ points) = fold (λ least point. min least (number point)) (number first) points

@@ -38,7 +38,7 @@ with_chosen weight piece node area =
       slope = slope_with weight piece node 0 ∷ slope_with weight piece node 1 ∷ slope_with weight piece node 2 ∷ slope_with weight piece node 3 ∷ [];
     }
 
--- the node with this piece chosen too, where the boxes share a point
+-- the node with this piece chosen too, if the boxes share a point
 abbrev pub child_with : ℕ → Node → Piece → Option Node
 child_with weight node piece = option_map (with_chosen weight piece node) (meet_of node.area piece.area)
 

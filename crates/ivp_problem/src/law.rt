@@ -42,7 +42,7 @@ pub fn bound_law(problem: &Problem, node: &Node)
     problem_law(problem);
 }
 
-/// What holds of the best point: it stands among all points at its index. It does nothing.
+/// What holds of the best point: it is among all points at its index. It does nothing.
 pub fn best_law(problem: &Problem)
     ensures { slice_get (points_of problem.now.axes) (index_of problem.now.axes (best_of problem.now)) ≡ Some (best_of problem.now) }
 {

@@ -65,7 +65,7 @@ fn with_chosen(weight: u32, piece: &Piece, node: &Node, area: BoxN) -> Node
 }
 
 /// The place of a box on an axis where the chosen pieces add most, and the least such: the high end
-/// where the slope is above 0, else the low end.
+/// if the slope is above 0, else the low end.
 fn high_place(node: &Node, axis: usize) -> u32
     requires axis { axis < 4 }
     requires some { slice_index node.now.area.low axis ≤ slice_index node.now.area.high axis }
@@ -136,7 +136,7 @@ impl Problem {
     }
 
     /// The child of a node that chooses the piece of this number of function number `depth`. `None`
-    /// exactly where the node and that piece share no point.
+    /// exactly if the node and that piece share no point.
     pub fn child(&self, node: &Node, piece: u32) -> Option<Node>
         requires node { IsNode self.now node.now }
         requires depth { node.now.depth < length self.now.terms }
@@ -155,7 +155,7 @@ impl Problem {
     }
 
     /// The child by the least piece number from `from` on that shares a point with the node. `None`
-    /// exactly where there is none.
+    /// exactly if there is none.
     pub fn next_child(&self, node: &Node, from: u32) -> Option<NumberedChild>
         requires node { IsNode self.now node.now }
         requires depth { node.now.depth < length self.now.terms }

@@ -119,7 +119,7 @@ pub fn problem_law(problem: &Problem)
 }
 
 impl Problem {
-    /// The problem of these terms over the domain, or the first refusal: `NoFunction` where there is
+    /// The problem of these terms over the domain, or the first refusal: `NoFunction` if there is
     /// none; `TooMany` above 64; `BadWeight` at the first weight outside 1 to 10,000,000; `OtherDomain`
     /// at the first function over another domain. No memory is taken.
     pub fn make(domain: Domain, terms: Vec<Term>) -> Result<Problem, ProblemFault>

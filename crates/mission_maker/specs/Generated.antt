@@ -66,7 +66,7 @@ talk number second k =
     line_at (turn_stamp second k) k
     (Posts (saying (slice_index_or talked_of (draw number before 16) []) (whole_number (pos (draw number (before + 1) 1000))) ∷ []))
 
--- A millisecond later it fetches its mail, where the third draw is 0.
+-- A millisecond later it fetches its mail, if the third draw is 0.
 abbrev pub fetch_behind : ℕ → ℕ → ℕ → List Entry
 fetch_behind number second k =
     if draw number (draws_before second k + 2) 4 == 0 then line_at (turn_stamp second k + 1) k Fetch ∷ [] else []

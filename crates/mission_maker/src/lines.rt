@@ -70,7 +70,7 @@ pub fn talk(
     })
 }
 
-/// Adds the line with which client `k` fetches behind its turn, where it does.
+/// Adds the line with which client `k` fetches behind its turn, if it does.
 pub fn add_fetch(lines: &mut Lines, number: u64, second: u64, k: u32) -> Result<(), NoMemory>
     requires { (second < 600) × (k < 8) }
     ensures { OnOk result (lines.new ≡ lines.old ++ fetch_behind number second k) }

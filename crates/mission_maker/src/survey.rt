@@ -1,4 +1,4 @@
-// The alpha survey: a vehicle goes round five points, and comes home. Its files stand in examples/alpha too.
+// The alpha survey: a vehicle goes round five points, and comes home. Its files are in examples/alpha too.
 ghost use Rattle.std.specs.Prelude.{◌≡◌, Ok, IfOk, IsTrue};
 ghost use Rattle.bhv_file.specs.Validity.{IsValidFile, serves};
 ghost use Rattle.mission_reader.specs.Validity.{IsValidMission};

@@ -21,7 +21,7 @@ use Rattle.axis_reader.specs.Fields.{axis_from, fields_of}
 use Rattle.mission_reader.specs.declared.mission.Mission.{Mission}
 use Rattle.mission_reader.specs.declared.settings.Settings.{Settings}
 
--- what stands before the first line: four iterations a second
+-- what is before the first line: four iterations a second
 abbrev pub nothing_set : Settings
 nothing_set = record { period = 250; behaviors = None; domain = None; helm = false }
 
@@ -53,7 +53,7 @@ abbrev pub mission_axes : Option (List Axis) → List Axis
 mission_axes None = []
 mission_axes (Some axes) = axes
 
--- the axes, where they make a domain
+-- the axes, if they make a domain
 abbrev pub with_mission_domain : Settings → Result (List Axis) DomainFault → Result Settings Cause
 with_mission_domain settings (Ok axes) = Ok (record settings { domain = Some axes })
 with_mission_domain settings (Err TooLarge) = Err M4
@@ -106,11 +106,11 @@ begun_by settings app =
 abbrev pub is_brace : List ℕ → Bool
 is_brace text = bytes_eq text (codes "{") || bytes_eq text (codes "}")
 
--- a line in a block, which is unread where the block isn't the helm's
+-- a line in a block, which is unread if the block isn't the helm's
 abbrev pub line_in : AppBlock → List ℕ → Result AppBlock Cause
 line_in block text = if block.helm then and_then (λ settings. Ok (app_block settings true)) (with_setting block.settings (sides_of text)) else Ok block
 
--- how a mission is read, section after section: outside blocks a line is unread, but no brace may stand there alone
+-- how a mission is read, section after section: outside blocks a line is unread, but no brace may be there alone
 abbrev pub mission_form : Form Settings AppBlock
 mission_form =
     record {

@@ -11,6 +11,6 @@ pub struct Mission {
     pub behaviors: Txt,
     /// What is decided on.
     pub domain: Domain,
-    /// The number of the file's last line, 1 where it is empty.
+    /// The number of the file's last line, 1 if it is empty.
     pub lines: u32,
 }

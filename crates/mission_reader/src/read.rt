@@ -5,7 +5,7 @@ ghost use Rattle.mission_reader.specs.Missions.{mission_of};
 ghost use Rattle.mission_reader.specs.Validity.{IsValidMission};
 
 use crate::mission::Mission;
-use crate::reading::Reading;
+use crate::reading::MissionReading;
 use moos_text::{ReadFault, next_said};
 use std::alloc::Global;
 
@@ -16,7 +16,7 @@ pub fn read_mission(alloc: Global, bytes: &[u8]) -> Result<Mission, ReadFault>
     ensures refused { IfErr result (λ fault. IsFirst fault (mission_of bytes.now)) }
     ensures valid { IfOk result IsValidMission }
 {
-    let mut reading = Reading::new();
+    let mut reading = MissionReading::new();
     let mut lines: u32 = 0;
     let mut left = bytes;
     while let Some(said) = next_said(left) {

@@ -25,23 +25,23 @@ pub enum Place {
 
 /// What was set so far, and where the lines have come.
 #[derive(Drop)]
-pub struct Reading {
+pub struct MissionReading {
     pub settings: Settings,
     pub place: Place,
 }
 
-impl Reading {
+impl MissionReading {
     /// Before the first line.
-    pub fn new() -> Reading
+    pub fn new() -> MissionReading
         ensures { standing result.settings result.place ≡ Outside nothing_set }
     {
-        Reading {
+        MissionReading {
             settings: Settings::new(),
             place: Place::Loose,
         }
     }
 
-    /// Reads one line more, which has this number and says this; nothing where it is blank.
+    /// Reads one line more, which has this number and says this; nothing if it is blank.
     pub fn read_line(
         &mut self,
         alloc: Global,
@@ -124,7 +124,7 @@ impl Reading {
     pub fn mission(self, last: u32) -> Result<Mission, ReadFault>
         ensures { result ≡ and_then (mission_with last) (at_end mission_form last (standing self.settings self.place)) }
     {
-        let Reading { settings, place } = self;
+        let MissionReading { settings, place } = self;
         match place {
             Place::Loose => settings.mission(last),
             Place::Headed(_) | Place::Braced(_) => Err(refusal_at(last, Cause::M2)),
@@ -132,7 +132,7 @@ impl Reading {
     }
 }
 
-// The app whose block a line opens; `None` exactly where it opens none.
+// The app whose block a line opens; `None` exactly if it opens none.
 fn app_of(text: &[u8]) -> Option<&[u8]>
     ensures { MatchOption result (opens_block (sides_of text.now) ≡ false) (λ app. (opens_block (sides_of text.now) ≡ true) × (app.now ≡ app_of (sides_of text.now))) }
 {
@@ -157,7 +157,7 @@ fn behind_head(text: &[u8], helm: bool) -> Place
     }
 }
 
-// Behind a line that opens a block stands its `{`.
+// Behind a line that opens a block is its `{`.
 fn braced(text: &[u8], helm: bool) -> Result<Place, Cause>
     ensures { result ≡ (if bytes_eq text.now (codes "{") then Ok (Place.Braced helm) else Err Cause.M1) }
 {
@@ -168,7 +168,7 @@ fn braced(text: &[u8], helm: bool) -> Result<Place, Cause>
     }
 }
 
-// Outside blocks no brace stands alone.
+// Outside blocks no brace is alone.
 fn loose_line(text: &[u8]) -> Result<(), Cause>
     ensures loose { IfOk result (λ _. is_brace text.now ≡ false) }
     ensures refused { IfErr result (λ cause. (is_brace text.now ≡ true) × (cause ≡ Cause.M1)) }

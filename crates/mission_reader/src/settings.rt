@@ -21,16 +21,16 @@ use std::alloc::{AllocError, Global};
 pub struct Settings {
     /// The time from one iteration to the next, in milliseconds.
     pub period: u64,
-    /// The name of the behaviour file, where it was given.
+    /// The name of the behaviour file, if it was given.
     pub behaviors: Option<Txt>,
-    /// The axes so far, where there are any.
+    /// The axes so far, if there are any.
     pub domain: Option<Domain>,
     /// Whether the helm's block was begun.
     pub helm: bool,
 }
 
 impl Settings {
-    /// What stands before the first line.
+    /// What is before the first line.
     pub fn new() -> Settings
         ensures { result ≡ nothing_set }
     {
@@ -147,7 +147,7 @@ impl Settings {
         Ok(self.extend(axis)?)
     }
 
-    // The same by the axis that stands there.
+    // The same by the axis that is there.
     fn extend(&mut self, axis: Axis) -> Result<(), Cause>
         ensures added { IfOk result (λ _. with_mission_axis self.old (Some axis) ≡ Ok self.new) }
         ensures refused { IfErr result (λ cause. with_mission_axis self.old (Some axis) ≡ Err cause) }
@@ -184,7 +184,7 @@ pub fn refusal_at(line: u32, cause: Cause) -> ReadFault
     ReadFault::At { line, cause }
 }
 
-// The milliseconds of an iteration, where the text is a number of iterations a second from 0.001 to 1,000.
+// The milliseconds of an iteration, if the text is a number of iterations a second from 0.001 to 1,000.
 fn period_in(text: &[u8]) -> Option<u64>
     ensures { result ≡ option_and_then period_of (milli_of text.now) }
 {

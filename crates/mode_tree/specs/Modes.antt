@@ -11,7 +11,7 @@ pub data ModePart : Type 0 where
   Named : ℕ → ModePart
   Other : ℕ → ModePart
 
--- the declaration's conditions all hold, where its parent line is passed over
+-- the declaration's conditions all hold, if its parent line is passed over
 abbrev pub is_met : Knowledge → Decl → Bool
 is_met known decl = list_all (λ cond. is_some (parent_of cond) || holds known [] cond) decl.conds
 
@@ -45,7 +45,7 @@ mode_of decls known = path_below decls known 16 None
 abbrev pub name_of_decl : List Decl → ℕ → List ℕ
 name_of_decl decls number = slice_index_or (map (λ decl. decl.name) decls) number []
 
--- its OTHER name, empty where it has none
+-- its OTHER name, empty if it has none
 abbrev pub other_of_decl : List Decl → ℕ → List ℕ
 other_of_decl decls number = slice_index_or (map (λ decl. unwrap_or decl.other []) decls) number []
 

@@ -34,7 +34,7 @@ ends_with_other decls [] = false
 ends_with_other decls (number ∷ []) = has_other decls number
 ends_with_other decls (number ∷ next ∷ rest) = ends_with_other decls (next ∷ rest)
 
--- A path of these declarations: at most 16 parts, each of which is one of them, and where an OTHER name is the last part, the
+-- A path of these declarations: at most 16 parts, each of which is one of them, and if an OTHER name is the last part, the
 -- last of them has one.
 pub record IsPathOf (decls : List Decl) (path : Path) : Type 0 where
   pub short : path.len ≤ 16

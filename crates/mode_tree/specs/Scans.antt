@@ -7,12 +7,12 @@ use Rattle.mode_tree.specs.declared.walk.Walk.{Walk}
 use Rattle.mode_tree.specs.Modes.{ModePart, Named, Other, has_other, is_met}
 use Rattle.mode_tree.specs.Paths.{are_below}
 
--- the parent stands before this number, or there is none
+-- the parent is before this number, or there is none
 abbrev pub stands_before : Option ℕ → ℕ → Bool
 stands_before None number = true
 stands_before (Some parent) number = nat_lt parent number
 
--- each declaration stands behind its parent, the first having this number
+-- each declaration follows its parent, the first having this number
 abbrev pub are_rooted : ℕ → List Decl → Bool
 are_rooted number [] = true
 are_rooted number (decl ∷ decls) = stands_before decl.parent number && are_rooted (number + 1) decls
@@ -22,7 +22,7 @@ abbrev pub other_with : Option ℕ → ℕ → Decl → Option ℕ
 other_with (Some other) number decl = Some other
 other_with None number decl = if is_some decl.other then Some number else None
 
--- the OTHER name of this sibling, where there is one
+-- the OTHER name of this sibling, if there is one
 abbrev pub other_part : Option ℕ → List ModePart
 other_part None = []
 other_part (Some number) = Other number ∷ []

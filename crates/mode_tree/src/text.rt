@@ -18,7 +18,7 @@ pub(crate) fn text_of(alloc: Global, bytes: &[u8]) -> Result<Txt, NoMemory>
     }
 }
 
-// What the parts that these numbers give print as, the last one an OTHER name where `other` is true.
+// What the parts that these numbers give print as, the last one by its OTHER name if `other` is true.
 pub(crate) fn path_bytes(
     alloc: Global,
     decls: &[Decl],

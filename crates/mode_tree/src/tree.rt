@@ -37,7 +37,7 @@ impl Model for ModeTree {
 }
 
 impl ModeTree {
-    /// The tree of these declarations, each of which stands behind the one under which it is.
+    /// The tree of these declarations, each of which follows the one under which it is.
     pub fn make(decls: Decls) -> ModeTree
         requires few { length decls < 2 ^ 32 }
         requires rooted { are_rooted 0 decls ≡ true }

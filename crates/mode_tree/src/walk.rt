@@ -75,7 +75,7 @@ impl Walk {
         }
     }
 
-    // This declaration's OTHER name counts where it has one and none before it has.
+    // This declaration's OTHER name counts if it has one and none before it has.
     fn with_other(self, number: u32, decl: &Decl) -> Walk
         ensures { result ≡ record self { other = other_with self.other number decl.now } }
     {
@@ -94,7 +94,7 @@ impl Walk {
         }
     }
 
-    // The path where no declaration is left: the OTHER name is its last part, where there is one.
+    // The path if no declaration is left: the OTHER name is its last part, if there is one.
     pub fn end(self) -> Path
         ensures within { (decls : List Declared) → IsWithin decls (length decls) self → IsPathOf decls result }
         ensures comes { (known : Knowledge) (number : ℕ) (all : List ModePart) → ComesTo known self number [] all → parts_of_path result ≡ all }
@@ -125,7 +125,7 @@ impl Walk {
     }
 }
 
-// Whether all conditions of a declaration hold, where its parent line is passed over.
+// Whether all conditions of a declaration hold, if its parent line is passed over.
 fn is_met(decl: &Decl, info: &Info) -> bool
     ensures { result ≡ is_met (knowledge_of info.now) decl.now }
 {

@@ -1,4 +1,4 @@
--- Two communities that are played with a bridge between them: where each stands between two steps, and what a step does.
+-- Two communities that are played with a bridge between them: where each is between two steps, and what a step does.
 use Rattle.std.specs.Prelude.{◌≡◌, ◌≢◌, ℕ, ◌-◌, ◌==◌, ◌≤◌, nat_lt, Bool, false, List, [], ◌∷◌, ◌++◌, length, take, drop, Option, None, Some, IsTrue}
 use Rattle.std.specs.List.{list_all}
 use Rattle.moos_bridged.specs.declared.community.Community.{Community}
@@ -41,7 +41,7 @@ left_lines community = drop community.from (community_script community).lines
 abbrev pub lines_cut : ℕ → ℕ → List Entry → List Entry
 lines_cut from to lines = take (to - from) (drop from lines)
 
--- the stamp of the first of these lines, where there is one
+-- the stamp of the first of these lines, if there is one
 abbrev pub next_line_stamp : List Entry → Option ℕ
 next_line_stamp [] = None
 next_line_stamp (line ∷ lines) = Some line.stamp

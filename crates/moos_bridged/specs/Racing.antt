@@ -63,7 +63,7 @@ pub record AreRaced (bridge : BridgeState) (one two : Community) : Type 0 where
   pub bridged : IsBridgedSoFar (community_script one) (community_script two) bridge.rules (stamps_of (community_script one).lines) (community_history one) (community_history two)
   pub none : bridge.unposted ≡ None
 
--- The same, by a bridge with the same rules, where the communities play the same scripts as before.
+-- The same, by a bridge with the same rules, if the communities play the same scripts as before.
 pub record HaveRaced (bridge bridge' : BridgeState) (one one' two two' : Community) : Type 0 where
   pub raced : AreRaced bridge' one' two'
   pub rules : bridge'.rules ≡ bridge.rules

@@ -8,7 +8,7 @@ use Rattle.moos_post.specs.History.{History}
 use Rattle.moos_share.specs.Bridged.{are_rising, has_stamp, keeps_moments}
 use Rattle.moos_share.specs.Carrying.{BridgeState}
 
--- the earlier of two stamps, where there is one
+-- the earlier of two stamps, if there is one
 abbrev pub earlier : Option ℕ → Option ℕ → Option ℕ
 earlier None two = two
 earlier (Some one) None = Some one
@@ -19,7 +19,7 @@ abbrev pub lines_left : Community → Community → ℕ
 lines_left one two = length (left_lines one) + length (left_lines two)
 
 -- One of the communities has played all lines below a stamp, and no other. Each of those lines has one of these stamps. In this part of
--- its history no entry stands behind one of a later moment, and all are below the stamp.
+-- its history no entry follows one of a later moment, and all are below the stamp.
 pub record IsPlayedTo (low : ℕ) (stamps : List ℕ) (community : Community) (part : History) : Type 0 where
   pub done : IsTrue (list_all (λ line. list_any (λ stamp. stamp == line.stamp) stamps) (done_lines community))
   pub left : IsTrue (list_all (λ line. nat_le low line.stamp) (left_lines community))
@@ -32,7 +32,7 @@ pub record AreStampsTo (low : ℕ) (stamps : List ℕ) (one two : Community) : T
   pub below : IsTrue (list_all (λ stamp. nat_lt stamp low) stamps)
   pub each : IsTrue (list_all (λ stamp. has_stamp stamp (community_script one).lines || has_stamp stamp (community_script two).lines) stamps)
 
--- what stands behind the bridge's opening in the first history
+-- what follows the bridge's opening in the first history
 abbrev pub behind_opening : History → History
 behind_opening history = drop 1 history
 

@@ -35,7 +35,7 @@ pub(crate) fn share_by_stamp<R: Threads + Wait + Sync, G: Gate>(
     Ok(())
 }
 
-// Plays the lines of the next stamp and has the bridge carry. It answers false where no line was left.
+// Plays the lines of the next stamp and has the bridge carry. It answers false if no line was left.
 fn share_next<R: Threads + Wait + Sync, G: Gate>(
     rt: &R,
     alloc: Global,
@@ -62,7 +62,7 @@ fn share_next<R: Threads + Wait + Sync, G: Gate>(
     Ok(true)
 }
 
-// The clients of both communities make their calls of this stamp. Where both have lines they do so beside each other; a thread
+// The clients of both communities make their calls of this stamp. If both have lines they do so beside each other; a thread
 // for nothing would cost more than the lines.
 fn play_both<R: Threads + Wait + Sync, G: Gate>(
     rt: &R,
@@ -95,7 +95,7 @@ fn play_both<R: Threads + Wait + Sync, G: Gate>(
     both(&first, second)
 }
 
-// The earlier of two stamps, where there is one.
+// The earlier of two stamps, if there is one.
 fn earlier(one: Option<u64>, two: Option<u64>) -> Option<u64>
     ensures { result ≡ earlier one two }
 {

@@ -87,7 +87,7 @@ impl<'a> Community<'a> {
         Ok(())
     }
 
-    /// The stamp of the next line, where one is left.
+    /// The stamp of the next line, if one is left.
     pub(crate) fn next_stamp(&self) -> Option<u64>
         requires { IsResting self.now }
         ensures { result ≡ next_line_stamp (left_lines self.now) }

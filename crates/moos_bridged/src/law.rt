@@ -1,4 +1,4 @@
-// What a bridge has posted at every moment, and what entries stand in both histories.
+// What a bridge has posted at every moment, and what entries are in both histories.
 ghost use Rattle.std.specs.Prelude.{List};
 ghost use Rattle.std.specs.List.{All};
 ghost use Rattle.moos_bridged.specs.Entries.{AreEntries};
@@ -13,7 +13,7 @@ ghost use Rattle.script_reader.specs.Validity.{IsValid};
 ghost use Rattle.turn_lock.specs.Passes.{Begins};
 
 /// What holds of two bridged histories, in either order: at every place of the second, what the bridge has posted there by then is the
-/// renaming of a front of all that the first mails to it, in the order of mailing. If the scripts' lines are all else that stands
+/// renaming of a front of all that the first mails to it, in the order of mailing. If the scripts' lines are all else that is
 /// there, it has posted the renaming of all of that in the end. It does nothing.
 pub fn bridged_law()
     ensures fronts { (order : Order) (first second : Script) (rules : List Rule) (one two front : History) → IsBridged order first second rules one two → Begins two front

@@ -63,7 +63,7 @@ fn race<R: Threads + Wait + Sync, G: Gate>(
     race_both(rt, alloc, bridge, one, two, gate)
 }
 
-// The same where the second script has no clients: the bridge has the first seat there.
+// The same if the second script has no clients: the bridge has the first seat there.
 fn race_alone<R: Threads + Wait + Sync, G: Gate>(
     rt: &R,
     alloc: Global,
@@ -83,7 +83,7 @@ fn race_alone<R: Threads + Wait + Sync, G: Gate>(
     Ok(())
 }
 
-// The same where both scripts have clients.
+// The same if both scripts have clients.
 fn race_both<R: Threads + Wait + Sync, G: Gate>(
     rt: &R,
     alloc: Global,

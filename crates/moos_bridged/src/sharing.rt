@@ -28,7 +28,7 @@ pub struct Shared {
 
 /// Plays two scripts at once, each on its own database, with a bridge from the first community to the second.
 ///
-/// The clients of each script have the numbers in which their names stand, and make their calls on threads of their own. The bridge
+/// The clients of each script have the numbers in which their names are, and make their calls on threads of their own. The bridge
 /// is one more client of each, behind those, with the name `pShare`. It first registers in the first community for what its rules
 /// select, in one call at stamp 0.
 ///

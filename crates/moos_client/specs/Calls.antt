@@ -23,7 +23,7 @@ pub record MayCall (lock : LockState (List (List ℕ))) (seat : SeatState) : Typ
 abbrev pub entry_of : ℕ → ℕ → Call → Entry
 entry_of client stamp call = record { stamp = stamp; client = client; call = call }
 
--- the seat after its entry, which stands behind this history
+-- the seat after its entry, which follows this history
 abbrev pub seat_after : SeatState → History → Entry → SeatState
 seat_after seat before entry = record seat { seen = before ++ entry ∷ []; mine = seat.mine ++ entry ∷ [] }
 
@@ -31,7 +31,7 @@ seat_after seat before entry = record seat { seen = before ++ entry ∷ []; mine
 abbrev pub entries_of : ℕ → History → List Entry
 entries_of client history = filter (λ entry. entry.client == client) history
 
--- The call is the client's next entry, and the last that the client has seen. What the client had seen stands before it,
+-- The call is the client's next entry, and the last that the client has seen. What the client had seen is before it,
 -- and of the client's own entries just those that it had made.
 pub record IsCalled (old new : SeatState) (stamp : ℕ) (call : Call) : Type 0 where
   pub before : History

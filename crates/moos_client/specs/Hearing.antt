@@ -8,7 +8,7 @@ use Rattle.moos_post.specs.History.{History}
 abbrev pub Mailed : Type 0 → Type 0
 Mailed A = ℕ → ℕ → History → A
 
--- what a client hears at each of its fetches in a part of a history that stands behind another part
+-- what a client hears at each of its fetches in a part of a history that follows another part
 abbrev pub heard_in : {A : Type 0} → Mailed A → ℕ → History → History → List A
 heard_in mailed client past [] = []
 heard_in mailed client past (entry ∷ later) =

@@ -10,10 +10,10 @@ use Rattle.moos_mail.proofs.Lists.{found-below}
 use Rattle.moos_post.specs.declared.value.Post.{Post}
 use Rattle.moos_post.specs.Delivery.{Inbox}
 use Rattle.moos_db.specs.Clients.{ClientState}
-use Rattle.moos_db.specs.Hearers.{HearBelow, AreKeptAs, AreKnown, AreNoted, AreNumbers, AreReady, HasLatest, IsAdded, IsHeardBy, IsNumbering, MayAdd, VariableState, VariablesState, fresh_hearers, name_at}
+use Rattle.moos_db.specs.Subscriptions.{HearBelow, AreKeptAs, AreKnown, AreNoted, AreNumbers, AreReady, HasLatest, IsAdded, IsHeardBy, IsNumbering, MayAdd, VariableState, VariablesState, fresh_subscriptions, name_at}
 use Rattle.moos_db.specs.Tables.{Row, number_of, rows_from, with_row}
 use Rattle.moos_db.proofs.Changes.{named-at}
-use Rattle.moos_db.proofs.Hearing.{hearers-fresh}
+use Rattle.moos_db.proofs.Hearing.{subscriptions-fresh}
 use Rattle.moos_db.proofs.Latests.{number_of-with_row}
 use Rattle.moos_db.proofs.Standing.{slice_get-seam}
 
@@ -109,13 +109,13 @@ known-more clients inboxes var number numbers known client below k d within othe
 
 -- the new variable is heard as the inboxes say
 heard-new : (inboxes : ℕ → Inbox) (posts : List Post) (clients : List ClientState) (before after : VariablesState) (var : List ℕ) (added : IsAdded clients var before after) → AreKeptAs inboxes posts before clients →
-    number_of var before.numbers ≡ None → IsHeardBy (length clients) inboxes (record { name = var; latest = None; hearers = added.hearers; room = added.room })
+    number_of var before.numbers ≡ None → IsHeardBy (length clients) inboxes (record { name = var; latest = None; subscriptions = added.subscriptions; room = added.room })
 heard-new inboxes posts clients before after var added kept unknown = record {
   each = λ client below.
       let here = found-below clients client below in
       added.each client below
-      ∙ ap (fresh_hearers client var) (ap (λ one. unwrap_or (option_map (λ (state : ClientState). state.lives) one) []) here.1 ∙ (kept.clients client here.0 here.1).lives)
-      ∙ hearers-fresh client var (inboxes client).lives (λ k d within. kept.heard.known client below k d within var unknown);
+      ∙ ap (fresh_subscriptions client var) (ap (λ one. unwrap_or (option_map (λ (state : ClientState). state.lives) one) []) here.1 ∙ (kept.clients client here.0 here.1).lives)
+      ∙ subscriptions-fresh client var (inboxes client).lives (λ k d within. kept.heard.known client below k d within var unknown);
   within = added.within;
 }
 
@@ -123,7 +123,7 @@ heard-new inboxes posts clients before after var added kept unknown = record {
 added-ready : (inboxes : ℕ → Inbox) (posts : List Post) (clients : List ClientState) (before after : VariablesState) (var : List ℕ) → IsAdded clients var before after → IsNumbering before.all before.numbers →
     number_of var before.numbers ≡ None → AreReady inboxes posts before clients → AreReady inboxes posts after clients
 added-ready inboxes posts clients before after var added numbering unknown ready =
-    let new : VariableState = record { name = var; latest = None; hearers = added.hearers; room = added.room } in
+    let new : VariableState = record { name = var; latest = None; subscriptions = added.subscriptions; room = added.room } in
     let with_new : VariablesState = record { all = before.all ++ new ∷ []; numbers = with_row var (length before.all) before.numbers; noted = before.noted } in
     let is : after ≡ with_new = λ i. record { all = added.all i; numbers = added.numbers i; noted = added.noted i } in
     subst (λ variables. AreReady inboxes posts variables clients) (sym is) (record {
@@ -149,14 +149,14 @@ pub may-add-below : (clients : List ClientState) (before after : VariablesState)
 may-add-below clients before after var (inl same) below = subst (λ (variables : VariablesState). HearBelow (length clients) variables.all) (sym same) below
 may-add-below clients before after var (inr (unknown, added)) below =
     subst (HearBelow (length clients)) (sym added.all)
-    (All-push (λ (variable : VariableState). All (λ hearer. hearer.client < length clients) variable.hearers) before.all (record { name = var; latest = None; hearers = added.hearers; room = added.room }) below added.within)
+    (All-push (λ (variable : VariableState). All (λ subscription. subscription.client < length clients) variable.subscriptions) before.all (record { name = var; latest = None; subscriptions = added.subscriptions; room = added.room }) below added.within)
 
 -- those that were noted stay so
 pub may-add-noted : (clients : List ClientState) (before after : VariablesState) (var : List ℕ) (vars : List (List ℕ)) → MayAdd clients var before after → AreNoted vars before → AreNoted vars after
 may-add-noted clients before after var vars (inl same) noted = subst (AreNoted vars) (sym same) noted
 may-add-noted clients before after var vars (inr (unknown, added)) noted =
     ap (map (name_at after.all)) added.noted ∙ ap (λ all. map (name_at all) before.noted) added.all
-    ∙ names-front before.all (record { name = var; latest = None; hearers = added.hearers; room = added.room } ∷ []) before.noted vars noted
+    ∙ names-front before.all (record { name = var; latest = None; subscriptions = added.subscriptions; room = added.room } ∷ []) before.noted vars noted
 
 -- the first of those that are noted are as many as there are posts
 pub noted-enough : (variables : List VariableState) (noted : List ℕ) (posts : List Post) → map (name_at variables) (take (length posts) noted) ≡ map (λ var. Some var) (map (λ (post : Post). post.var) posts) → length posts ≤ length noted

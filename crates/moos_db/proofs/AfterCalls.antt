@@ -15,7 +15,7 @@ use Rattle.moos_mail.proofs.Appending.{numbers}
 use Rattle.moos_mail.proofs.Joined.{none_waits}
 use Rattle.moos_mail.proofs.Orderly.{settled-inbox_of}
 use Rattle.moos_db.specs.Clients.{ClientState, IsClient, registration_of}
-use Rattle.moos_db.specs.Hearers.{AreHeard, AreKeptAs, AreNoted, IsHeardBy, HasKnown, VariableState, VariablesState, hearers_of, with_inbox, with_lives}
+use Rattle.moos_db.specs.Subscriptions.{AreHeard, AreKeptAs, AreNoted, IsHeardBy, HasKnown, VariableState, VariablesState, subscriptions_of, with_inbox, with_lives}
 use Rattle.moos_db.specs.Places.{AreKept, inboxes_after}
 use Rattle.moos_db.specs.Registering.{AreStill, IsStill}
 use Rattle.moos_db.proofs.Changes.{AreClients-set, AreNoted-names, at-each, names-each, set-cases}
@@ -34,7 +34,7 @@ AreHeard-alike : (clients : ℕ) (inboxes others : ℕ → Inbox) (posts : List 
     AreHeard clients inboxes posts variables → AreHeard clients others posts variables
 AreHeard-alike clients inboxes others posts variables alike held = record {
   heard = All-weaker (IsHeardBy clients inboxes) (IsHeardBy clients others)
-      (λ variable heard. record { each = λ client below. heard.each client below ∙ ap (hearers_of client variable.name) (sym (alike client)); within = heard.within }) variables.all held.heard;
+      (λ variable heard. record { each = λ client below. heard.each client below ∙ ap (subscriptions_of client variable.name) (sym (alike client)); within = heard.within }) variables.all held.heard;
   latest = held.latest;
   known = λ client below. subst (All (HasKnown variables.numbers)) (sym (alike client)) (held.known client below);
 }

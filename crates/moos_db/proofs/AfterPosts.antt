@@ -14,11 +14,11 @@ use Rattle.moos_mail.proofs.Appending.{one_of-mailed, ordered-more, waits-more}
 use Rattle.moos_mail.proofs.Lists.{found-below}
 use Rattle.moos_mail.proofs.Orderly.{IsOrderly, IsPast}
 use Rattle.moos_db.specs.Clients.{ClientState, IsClient, mailed_once, registration_of}
-use Rattle.moos_db.specs.Hearers.{AreHeard, AreKeptAs, AreKnown, HasLatest, HearerState, IsHeardBy, HasKnown, IsNumbering, IsPosted, VariableState, VariablesState, hearers_of, hears_due, mailed_if, of_client}
+use Rattle.moos_db.specs.Subscriptions.{AreHeard, AreKeptAs, AreKnown, HasLatest, SubscriptionNow, IsHeardBy, HasKnown, IsNumbering, IsPosted, VariableState, VariablesState, subscriptions_of, hears_due, mailed_if, of_client}
 use Rattle.moos_db.specs.Tables.{Row, number_of, rows_of}
 use Rattle.moos_db.proofs.Adding.{other-name}
 use Rattle.moos_db.proofs.Changes.{all-at, all-set}
-use Rattle.moos_db.proofs.Hearing.{any-hearers, AreAsOne, due-alike, hearers-passed, last-came, of_client-stamped, others-passed, passed, registrations-passed, stamped, stamped-client}
+use Rattle.moos_db.proofs.Hearing.{any-subscriptions, AreAsOne, due-alike, subscriptions-passed, last-came, of_client-stamped, others-passed, passed, registrations-passed, stamped, stamped-client}
 use Rattle.moos_db.proofs.Latests.{latest-posted}
 
 -- who hears
@@ -31,31 +31,31 @@ apart-name variables numbers at k var other numbering numbered is apart =
 
 -- A post comes through the registrations of each client of which this says so, and through those who hear its variable of which the
 -- other does.
-module _ (clients : ℕ) (post : Post) (heard : HearerState → Bool) (comes : ℕ → Live → Bool) (inboxes now : ℕ → Inbox) (alike : (client : ℕ) → AreAsOne client post.var heard (comes client))
+module _ (clients : ℕ) (post : Post) (heard : SubscriptionNow → Bool) (comes : ℕ → Live → Bool) (inboxes now : ℕ → Inbox) (alike : (client : ℕ) → AreAsOne client post.var heard (comes client))
     (come : (client : ℕ) → (now client).lives ≡ map (passed (comes client) post) (inboxes client).lives) where
   -- the variable of the post is heard as the inboxes say, and so is each other
   own-heard : (variable : VariableState) (latest : Option ℕ) (room : ℕ) → variable.name ≡ post.var → IsHeardBy clients inboxes variable →
-      IsHeardBy clients now (record variable { latest = latest; hearers = map (stamped heard post.stamp) variable.hearers; room = room })
+      IsHeardBy clients now (record variable { latest = latest; subscriptions = map (stamped heard post.stamp) variable.subscriptions; room = room })
   own-heard variable latest room name are = record {
     each = λ client below.
-        of_client-stamped client heard post.stamp variable.hearers ∙ ap (map (stamped heard post.stamp)) (are.each client below ∙ ap (λ var. hearers_of client var (inboxes client).lives) name)
-        ∙ hearers-passed client heard (comes client) post (inboxes client).lives (alike client)
-        ∙ (λ i. hearers_of client (sym name i) (sym (come client) i));
-    within = All-map (λ (hearer : HearerState). hearer.client < clients) (stamped heard post.stamp) variable.hearers
-        (All-weaker (λ (hearer : HearerState). hearer.client < clients) (λ hearer. (stamped heard post.stamp hearer).client < clients)
-        (λ hearer below. subst (λ n. n < clients) (sym (stamped-client heard post.stamp hearer)) below) variable.hearers are.within);
+        of_client-stamped client heard post.stamp variable.subscriptions ∙ ap (map (stamped heard post.stamp)) (are.each client below ∙ ap (λ var. subscriptions_of client var (inboxes client).lives) name)
+        ∙ subscriptions-passed client heard (comes client) post (inboxes client).lives (alike client)
+        ∙ (λ i. subscriptions_of client (sym name i) (sym (come client) i));
+    within = All-map (λ (subscription : SubscriptionNow). subscription.client < clients) (stamped heard post.stamp) variable.subscriptions
+        (All-weaker (λ (subscription : SubscriptionNow). subscription.client < clients) (λ subscription. (stamped heard post.stamp subscription).client < clients)
+        (λ subscription below. subst (λ n. n < clients) (sym (stamped-client heard post.stamp subscription)) below) variable.subscriptions are.within);
   }
 
   other-heard : (variable : VariableState) → bytes_eq post.var variable.name ≡ false → IsHeardBy clients inboxes variable → IsHeardBy clients now variable
   other-heard variable apart are = record {
-    each = λ client below. are.each client below ∙ sym (others-passed client (comes client) post variable.name (inboxes client).lives apart) ∙ ap (hearers_of client variable.name) (sym (come client));
+    each = λ client below. are.each client below ∙ sym (others-passed client (comes client) post variable.name (inboxes client).lives apart) ∙ ap (subscriptions_of client variable.name) (sym (come client));
     within = are.within;
   }
 
   pub all-heard : (variables : List VariableState) (numbers : List Row) (at : ℕ) (variable : VariableState) (latest : Option ℕ) (room : ℕ) → IsNumbering variables numbers → slice_get variables at ≡ Some variable → variable.name ≡ post.var →
-      All (IsHeardBy clients inboxes) variables → All (IsHeardBy clients now) (set variables at (record variable { latest = latest; hearers = map (stamped heard post.stamp) variable.hearers; room = room }))
+      All (IsHeardBy clients inboxes) variables → All (IsHeardBy clients now) (set variables at (record variable { latest = latest; subscriptions = map (stamped heard post.stamp) variable.subscriptions; room = room }))
   all-heard variables numbers at variable latest room numbering there name all =
-      all-set (IsHeardBy clients inboxes) (IsHeardBy clients now) variables at (record variable { latest = latest; hearers = map (stamped heard post.stamp) variable.hearers; room = room })
+      all-set (IsHeardBy clients inboxes) (IsHeardBy clients now) variables at (record variable { latest = latest; subscriptions = map (stamped heard post.stamp) variable.subscriptions; room = room })
       (own-heard variable latest room name (all-at (IsHeardBy clients inboxes) variables at variable all there))
       (λ k other is apart are. other-heard other (apart-name variables numbers at k post.var other numbering (ap (λ var. number_of var numbers) (sym name) ∙ numbering.each at variable there) is apart) are) all
 
@@ -114,15 +114,15 @@ posted-kept names inboxes posts post before after clients others posted name ord
   clients = λ number other there.
       let below : number < length clients = omega (arith, slice_get_within others number other there, posted.mailed.each) in
       let here = found-below clients number below in
-      client-posted names (length posts) post (list_any heard (of_client number posted.variable.hearers)) (inboxes number) here.0 other (are.clients number here.0 here.1) (orderly number) (ap length (counted number))
-      (ap (list_any heard) (heard_here.each number below ∙ ap (λ var. hearers_of number var (inboxes number).lives) name) ∙ any-hearers number post.var heard (is_due names post) (inboxes number).lives (due-alike names number post))
+      client-posted names (length posts) post (list_any heard (of_client number posted.variable.subscriptions)) (inboxes number) here.0 other (are.clients number here.0 here.1) (orderly number) (ap length (counted number))
+      (ap (list_any heard) (heard_here.each number below ∙ ap (λ var. subscriptions_of number var (inboxes number).lives) name) ∙ any-subscriptions number post.var heard (is_due names post) (inboxes number).lives (due-alike names number post))
       (posted.mailed.mail number here.0 other here.1 there);
   heard = subst (λ count. AreHeard count now (posts ++ post ∷ []) after) (sym posted.mailed.each) (record {
     heard = subst (All (IsHeardBy (length clients) now)) (sym posted.all)
         (all-heard (length clients) post heard (λ client. is_due names post) inboxes now (λ client. due-alike names client post) (λ client. refl) before.all before.numbers posted.at posted.variable (Some (length posts)) posted.room
         posted.numbering posted.there name are.heard.heard);
     latest = subst (All (HasLatest (posts ++ post ∷ []))) (sym posted.all)
-        (all-set (HasLatest posts) (HasLatest (posts ++ post ∷ [])) before.all posted.at (record posted.variable { latest = Some (length posts); hearers = map (stamped heard post.stamp) posted.variable.hearers; room = posted.room })
+        (all-set (HasLatest posts) (HasLatest (posts ++ post ∷ [])) before.all posted.at (record posted.variable { latest = Some (length posts); subscriptions = map (stamped heard post.stamp) posted.variable.subscriptions; room = posted.room })
         (sym (latest-posted posts post posted.variable.name ∙ ap (λ b. if b then Some (length posts) else number_of posted.variable.name (rows_of posts)) ((bytes_eq-Decides post.var posted.variable.name).1 (sym name))))
         (λ k other is apart latest. latest
         ∙ sym (latest-posted posts post other.name ∙ ap (λ b. if b then Some (length posts) else number_of other.name (rows_of posts)) (apart-name before.all before.numbers posted.at k post.var other posted.numbering numbered is apart))) are.heard.latest);
@@ -134,7 +134,7 @@ posted-kept names inboxes posts post before after clients others posted name ord
     now : ℕ → Inbox
     now client = with_post names (inboxes client) post
 
-    heard : HearerState → Bool
+    heard : SubscriptionNow → Bool
     heard = hears_due post.stamp (name_of names post.source)
 
     heard_here : IsHeardBy (length clients) inboxes posted.variable

@@ -8,7 +8,7 @@ use Rattle.std.proofs.lemmas.Option.{same_Some, slice_get-map, slice_get_within}
 use Rattle.moos_mail.proofs.Lists.{found-below, take-next}
 use Rattle.moos_post.specs.Patterns.{matches}
 use Rattle.moos_db.specs.declared.registration.Registration.{Registration}
-use Rattle.moos_db.specs.Hearers.{AreNumbers, HearerState, VariableState, VariablesState}
+use Rattle.moos_db.specs.Subscriptions.{AreNumbers, SubscriptionNow, VariableState, VariablesState}
 use Rattle.moos_db.specs.Registering.{AreEach, AreEachAt, AreRoomier, HasRoomThrough, HaveRoomFor, Heard, IsAddedTo, IsRoomier, heard_at_number, heard_where, heard_through, variable_names}
 use Rattle.moos_db.proofs.Changes.{AreNumbers-names, each-shown, names-at, set-cases}
 
@@ -103,13 +103,13 @@ at-append number xs ys =
     ap (map (λ (one : Heard). one.1)) (filter-append (λ (one : Heard). one.0 == number) xs ys)
     ∙ map-append (λ (one : Heard). one.1) (filter (λ (one : Heard). one.0 == number) xs) (filter (λ (one : Heard). one.0 == number) ys)
 
-pub at-own : (number : ℕ) (hearer : HearerState) (ys : List Heard) → heard_at_number number ((number, hearer) ∷ ys) ≡ hearer ∷ heard_at_number number ys
-at-own number hearer ys =
-    ap (λ b. map (λ (one : Heard). one.1) (cond b ((number, hearer) ∷ filter (λ (one : Heard). one.0 == number) ys) (filter (λ (one : Heard). one.0 == number) ys))) (eq-eqb number number refl)
+pub at-own : (number : ℕ) (subscription : SubscriptionNow) (ys : List Heard) → heard_at_number number ((number, subscription) ∷ ys) ≡ subscription ∷ heard_at_number number ys
+at-own number subscription ys =
+    ap (λ b. map (λ (one : Heard). one.1) (cond b ((number, subscription) ∷ filter (λ (one : Heard). one.0 == number) ys) (filter (λ (one : Heard). one.0 == number) ys))) (eq-eqb number number refl)
 
-pub at-other : (number other : ℕ) (hearer : HearerState) → other ≢ number → heard_at_number other ((number, hearer) ∷ []) ≡ []
-at-other number other hearer apart =
-    ap (λ b. map (λ (one : Heard). one.1) (cond b ((number, hearer) ∷ []) [])) (ne_eqb number other (λ same. apart (sym same)))
+pub at-other : (number other : ℕ) (subscription : SubscriptionNow) → other ≢ number → heard_at_number other ((number, subscription) ∷ []) ≡ []
+at-other number other subscription apart =
+    ap (λ b. map (λ (one : Heard). one.1) (cond b ((number, subscription) ∷ []) [])) (ne_eqb number other (λ same. apart (sym same)))
 
 added-more : (first second : List Heard) (number : ℕ) (one other more : VariableState) → IsAddedTo first number one other → IsAddedTo second number other more → IsAddedTo (first ++ second) number one more
 added-more first second number one other more was now =
@@ -117,38 +117,38 @@ added-more first second number one other more was now =
     record {
       same =
           now.same
-          ∙ ap (λ (v : VariableState). record v { hearers = v.hearers ++ heard_at_number number second; room = more.room }) was.same
-          ∙ ap (λ hearers. record one { hearers = hearers; room = more.room }) (append_assoc one.hearers (heard_at_number number first) (heard_at_number number second) ∙ ap (λ all. one.hearers ++ all) (sym both));
+          ∙ ap (λ (v : VariableState). record v { subscriptions = v.subscriptions ++ heard_at_number number second; room = more.room }) was.same
+          ∙ ap (λ subscriptions. record one { subscriptions = subscriptions; room = more.room }) (append_assoc one.subscriptions (heard_at_number number first) (heard_at_number number second) ∙ ap (λ all. one.subscriptions ++ all) (sym both));
       room = omega (arith, was.room, now.room, ap length both, length-append (heard_at_number number first) (heard_at_number number second));
     }
 
 pub added-nobody : (number : ℕ) (variable : VariableState) → IsAddedTo [] number variable variable
-added-nobody number variable = record { same = ap (λ hearers. record variable { hearers = hearers }) (sym (append-nil variable.hearers)); room = omega arith }
+added-nobody number variable = record { same = ap (λ subscriptions. record variable { subscriptions = subscriptions }) (sym (append-nil variable.subscriptions)); room = omega arith }
 
-added-none : (number other : ℕ) (hearer : HearerState) (variable : VariableState) → other ≢ number → IsAddedTo ((number, hearer) ∷ []) other variable variable
-added-none number other hearer variable apart = record {
-  same = ap (λ hearers. record variable { hearers = hearers }) (sym (ap (λ all. variable.hearers ++ all) (at-other number other hearer apart) ∙ append-nil variable.hearers));
+added-none : (number other : ℕ) (subscription : SubscriptionNow) (variable : VariableState) → other ≢ number → IsAddedTo ((number, subscription) ∷ []) other variable variable
+added-none number other subscription variable apart = record {
+  same = ap (λ subscriptions. record variable { subscriptions = subscriptions }) (sym (ap (λ all. variable.subscriptions ++ all) (at-other number other subscription apart) ∙ append-nil variable.subscriptions));
   room = omega arith;
 }
 
-pub added-set : (before after : List VariableState) (all : List Heard) (number : ℕ) (hearer : HearerState) (one other : VariableState) → AreEachAt (IsAddedTo all) before after → slice_get after number ≡ Some one →
-    other ≡ record one { hearers = one.hearers ++ hearer ∷ []; room = other.room } → one.room ≤ other.room + 1 → AreEachAt (IsAddedTo (all ++ (number, hearer) ∷ [])) before (slice_set after number other)
-added-set before after all number hearer one other added there same room =
-    each-then (IsAddedTo all) (IsAddedTo ((number, hearer) ∷ [])) (IsAddedTo (all ++ (number, hearer) ∷ [])) before after (slice_set after number other)
-    (λ n x y z. added-more all ((number, hearer) ∷ []) n x y z) added
-    (each-set (IsAddedTo ((number, hearer) ∷ [])) after number one other (λ n x apart. added-none number n hearer x apart) there (record {
-      same = same ∙ ap (λ more. record one { hearers = one.hearers ++ more; room = other.room }) (sym (at-own number hearer []));
-      room = omega (arith, room, ap length (at-own number hearer []));
+pub added-set : (before after : List VariableState) (all : List Heard) (number : ℕ) (subscription : SubscriptionNow) (one other : VariableState) → AreEachAt (IsAddedTo all) before after → slice_get after number ≡ Some one →
+    other ≡ record one { subscriptions = one.subscriptions ++ subscription ∷ []; room = other.room } → one.room ≤ other.room + 1 → AreEachAt (IsAddedTo (all ++ (number, subscription) ∷ [])) before (slice_set after number other)
+added-set before after all number subscription one other added there same room =
+    each-then (IsAddedTo all) (IsAddedTo ((number, subscription) ∷ [])) (IsAddedTo (all ++ (number, subscription) ∷ [])) before after (slice_set after number other)
+    (λ n x y z. added-more all ((number, subscription) ∷ []) n x y z) added
+    (each-set (IsAddedTo ((number, subscription) ∷ [])) after number one other (λ n x apart. added-none number n subscription x apart) there (record {
+      same = same ∙ ap (λ more. record one { subscriptions = one.subscriptions ++ more; room = other.room }) (sym (at-own number subscription []));
+      room = omega (arith, room, ap length (at-own number subscription []));
     }))
 
 -- there is room for the next
-pub room-next : (before after : List VariableState) (all : List Heard) (number : ℕ) (hearer : HearerState) (rest : List Heard) (one : VariableState) → HaveRoomFor (all ++ (number, hearer) ∷ rest) before →
+pub room-next : (before after : List VariableState) (all : List Heard) (number : ℕ) (subscription : SubscriptionNow) (rest : List Heard) (one : VariableState) → HaveRoomFor (all ++ (number, subscription) ∷ rest) before →
     AreEachAt (IsAddedTo all) before after → slice_get after number ≡ Some one → 0 < one.room
-room-next before after all number hearer rest one room added there =
+room-next before after all number subscription rest one room added there =
     let found : (x : VariableState) × (slice_get before number ≡ Some x) = found-below before number (omega (arith, added.each, slice_get_within after number one there)) in
-    let whole : heard_at_number number (all ++ (number, hearer) ∷ rest) ≡ heard_at_number number all ++ (hearer ∷ heard_at_number number rest)
-    = at-append number all ((number, hearer) ∷ rest) ∙ ap (λ more. heard_at_number number all ++ more) (at-own number hearer rest) in
-    omega (arith, room number found.0 found.1, (added.same number found.0 one found.1 there).room, ap length whole, length-append (heard_at_number number all) (hearer ∷ heard_at_number number rest))
+    let whole : heard_at_number number (all ++ (number, subscription) ∷ rest) ≡ heard_at_number number all ++ (subscription ∷ heard_at_number number rest)
+    = at-append number all ((number, subscription) ∷ rest) ∙ ap (λ more. heard_at_number number all ++ more) (at-own number subscription rest) in
+    omega (arith, room number found.0 found.1, (added.same number found.0 one found.1 there).room, ap length whole, length-append (heard_at_number number all) (subscription ∷ heard_at_number number rest))
 
 -- the table of numbers is that of the names alone
 pub numbers-kept : (before after : VariablesState) → variable_names after.all ≡ variable_names before.all → after.numbers ≡ before.numbers → after.noted ≡ before.noted → AreNumbers before → AreNumbers after

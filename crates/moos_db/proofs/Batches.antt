@@ -21,7 +21,7 @@ use Rattle.moos_mail.proofs.Orderly.{IsOrderly, orderly-keeps, settled-inbox_of}
 use Rattle.moos_db.specs.declared.mail.Origin.{Origin}
 use Rattle.moos_db.specs.Clients.{ClientState}
 use Rattle.moos_db.specs.Database.{origin_of}
-use Rattle.moos_db.specs.Hearers.{HearBelow, AreKeptAs, AreNoted, AreReady, HasRoom, HaveLetterRoom, HearerState, IsHeardBy, IsPosted, VariableState, VariablesState, after_hearing, hears_due, name_at}
+use Rattle.moos_db.specs.Subscriptions.{HearBelow, AreKeptAs, AreNoted, AreReady, HasRoom, HaveLetterRoom, SubscriptionNow, IsHeardBy, IsPosted, VariableState, VariablesState, after_hearing, hears_due, name_at}
 use Rattle.moos_db.specs.Places.{AreKept, inboxes_after, makes_posts}
 use Rattle.moos_db.proofs.AfterCalls.{AreKeptAs-alike, IsAlike, next-inbox}
 use Rattle.moos_db.proofs.AfterPosts.{none-ahead, posted-kept}
@@ -62,7 +62,7 @@ posting-start names history later variables clients each ready noted room =
 
 pub kept-below : (inboxes : ℕ → Inbox) (posts : List Post) (variables : VariablesState) (clients : List ClientState) → AreKeptAs inboxes posts variables clients → HearBelow (length clients) variables.all
 kept-below inboxes posts variables clients stand =
-    All-weaker (IsHeardBy (length clients) inboxes) (λ (variable : VariableState). All (λ hearer. hearer.client < length clients) variable.hearers) (λ variable heard. heard.within) variables.all stand.heard.heard
+    All-weaker (IsHeardBy (length clients) inboxes) (λ (variable : VariableState). All (λ subscription. subscription.client < length clients) variable.subscriptions) (λ variable heard. heard.within) variables.all stand.heard.heard
 
 -- the next post was mailed to nobody
 pub posting-new : (names : List (List ℕ)) (history : History) (later : List Post) (done : ℕ) (variables : VariablesState) (clients : List ClientState) → IsPosting names history later done variables clients →
@@ -76,30 +76,30 @@ posting-new names history later done variables clients state next k d within =
     (omega (arith, ap length (posted-posts names history (take done later) k), length-append (posts_of history) (take done later), length-take-le done later (omega (arith, next))))
 
 -- there is one place less of room for the others
-room-less : (more : ℕ) (before after : List ClientState) (hearer : HearerState) → length after ≡ length before →
-    ((client : ℕ) (one other : ClientState) → slice_get before client ≡ Some one → slice_get after client ≡ Some other → one.spare ≤ other.spare + 1) → HasRoom before more hearer → HasRoom after (more - 1) hearer
-room-less more before after hearer each less room client there =
-    let here = found-below before hearer.client (omega (arith, slice_get_within after hearer.client client there, each)) in
-    omega (arith, room here.0 here.1, less hearer.client here.0 client here.1 there)
+room-less : (more : ℕ) (before after : List ClientState) (subscription : SubscriptionNow) → length after ≡ length before →
+    ((client : ℕ) (one other : ClientState) → slice_get before client ≡ Some one → slice_get after client ≡ Some other → one.spare ≤ other.spare + 1) → HasRoom before more subscription → HasRoom after (more - 1) subscription
+room-less more before after subscription each less room client there =
+    let here = found-below before subscription.client (omega (arith, slice_get_within after subscription.client client there, each)) in
+    omega (arith, room here.0 here.1, less subscription.client here.0 client here.1 there)
 
-rooms-heard : (more stamp : ℕ) (source : List ℕ) (clients : List ClientState) (hearers : List HearerState) → All (HasRoom clients more) hearers → All (HasRoom clients more) (map (after_hearing stamp source) hearers)
-rooms-heard more stamp source clients hearers rooms =
-    All-map (HasRoom clients more) (after_hearing stamp source) hearers
-    (All-weaker (HasRoom clients more) (λ hearer. HasRoom clients more (after_hearing stamp source hearer))
-    (λ hearer room client there. room client (ap (slice_get clients) (sym (stamped-client (hears_due stamp source) stamp hearer)) ∙ there)) hearers rooms)
+rooms-heard : (more stamp : ℕ) (source : List ℕ) (clients : List ClientState) (subscriptions : List SubscriptionNow) → All (HasRoom clients more) subscriptions → All (HasRoom clients more) (map (after_hearing stamp source) subscriptions)
+rooms-heard more stamp source clients subscriptions rooms =
+    All-map (HasRoom clients more) (after_hearing stamp source) subscriptions
+    (All-weaker (HasRoom clients more) (λ subscription. HasRoom clients more (after_hearing stamp source subscription))
+    (λ subscription room client there. room client (ap (slice_get clients) (sym (stamped-client (hears_due stamp source) stamp subscription)) ∙ there)) subscriptions rooms)
 
 room-posted : (number stamp from more : ℕ) (source : List ℕ) (before after : VariablesState) (clients others : List ClientState) → IsPosted number stamp source before after clients others → HaveLetterRoom clients before from more → HaveLetterRoom others after (from + 1) (more - 1)
 room-posted number stamp from more source before after clients others posted rooms post at variable low found there =
-    All-weaker (HasRoom clients more) (HasRoom others (more - 1)) (λ hearer. room-less more clients others hearer posted.mailed.each posted.mailed.room) variable.hearers
+    All-weaker (HasRoom clients more) (HasRoom others (more - 1)) (λ subscription. room-less more clients others subscription posted.mailed.each posted.mailed.room) variable.subscriptions
     (elim (set-cases before.all posted.at at new variable (ap (λ list. slice_get list at) (sym posted.all) ∙ there)) [
       | inl own ↦
-          subst (λ (one : VariableState). All (HasRoom clients more) one.hearers) (sym own.1)
-          (rooms-heard more stamp source clients posted.variable.hearers (rooms post at posted.variable (omega (arith, low)) was (ap (slice_get before.all) own.0 ∙ posted.there)))
+          subst (λ (one : VariableState). All (HasRoom clients more) one.subscriptions) (sym own.1)
+          (rooms-heard more stamp source clients posted.variable.subscriptions (rooms post at posted.variable (omega (arith, low)) was (ap (slice_get before.all) own.0 ∙ posted.there)))
       | inr apart ↦ rooms post at variable (omega (arith, low)) was apart.1
     ])
   where
     new : VariableState
-    new = record posted.variable { latest = Some number; hearers = map (after_hearing stamp source) posted.variable.hearers; room = posted.room }
+    new = record posted.variable { latest = Some number; subscriptions = map (after_hearing stamp source) posted.variable.subscriptions; room = posted.room }
 
     was : slice_get before.noted post ≡ Some at
     was = ap (λ list. slice_get list post) (sym posted.noted) ∙ found

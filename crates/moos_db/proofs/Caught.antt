@@ -17,13 +17,13 @@ use Rattle.moos_post.specs.Patterns.{matches}
 use Rattle.moos_db.specs.declared.mail.Origin.{Origin}
 use Rattle.moos_db.specs.Database.{origin_of}
 use Rattle.moos_db.specs.Clients.{ClientState, IsClient}
-use Rattle.moos_db.specs.Hearers.{AreHeard, AreKeptAs, AreKnown, AreNoted, HasLatest, HearerState, IsHeardBy, VariableState, VariablesState, hearers_of, is_new_at, mailed_if, name_at, of_client, with_inbox}
+use Rattle.moos_db.specs.Subscriptions.{AreHeard, AreKeptAs, AreKnown, AreNoted, HasLatest, SubscriptionNow, IsHeardBy, VariableState, VariablesState, subscriptions_of, is_new_at, mailed_if, name_at, of_client, with_inbox}
 use Rattle.moos_db.specs.Registering.{IsCaught, StandsAt, catch_number, catch_post}
 use Rattle.moos_db.specs.Tables.{number_of}
 use Rattle.moos_db.proofs.AfterPosts.{all-heard, client-mailed, known-passed}
 use Rattle.moos_db.proofs.AfterRegistering.{set-names}
 use Rattle.moos_db.proofs.Changes.{all-at, all-same, AreClients-set, AreNoted-names, at-client, at-each, changed-twice, name-noted, names-at}
-use Rattle.moos_db.proofs.Hearing.{any-hearers, is_new_of, new-alike, passed, registrations-passed, stamped}
+use Rattle.moos_db.proofs.Hearing.{any-subscriptions, is_new_of, new-alike, passed, registrations-passed, stamped}
 
 -- one that was mailed before doesn't catch up
 mailed-stays : (names : List (List ℕ)) (posts : List Post) (inbox : Inbox) (number : ℕ) → was_mailed number inbox.mailed ≡ true → catch_number names posts inbox number ≡ inbox
@@ -59,14 +59,14 @@ caught-by names posts inbox number post answer there new is =
         (λ k d within. ap (λ b. if b then with_came post (get_or inbox.lives k d) else get_or inbox.lives k d) (none-at (is_new_for names inbox.entries post) inbox.lives k d (sym none) within))))
 
 -- who is new is the client's
-new-own : (client made : ℕ) (source : List ℕ) (hearers : List HearerState) → list_any (is_new_at client made source) hearers ≡ list_any (is_new_at client made source) (of_client client hearers)
+new-own : (client made : ℕ) (source : List ℕ) (subscriptions : List SubscriptionNow) → list_any (is_new_at client made source) subscriptions ≡ list_any (is_new_at client made source) (of_client client subscriptions)
 new-own client made source [] = refl
-new-own client made source (hearer ∷ hearers) = through (hearer.client == client) refl (new-own client made source hearers)
+new-own client made source (subscription ∷ subscriptions) = through (subscription.client == client) refl (new-own client made source subscriptions)
   where
-    through : (b : Bool) → (hearer.client == client) ≡ b → list_any (is_new_at client made source) hearers ≡ list_any (is_new_at client made source) (of_client client hearers) →
-        ((b && hearer.made == made) && matches hearer.reg.source source || list_any (is_new_at client made source) hearers)
-        ≡ list_any (is_new_at client made source) (cond b (hearer ∷ of_client client hearers) (of_client client hearers))
-    through true is rest = λ i. (sym is i && hearer.made == made) && matches hearer.reg.source source || rest i
+    through : (b : Bool) → (subscription.client == client) ≡ b → list_any (is_new_at client made source) subscriptions ≡ list_any (is_new_at client made source) (of_client client subscriptions) →
+        ((b && subscription.made == made) && matches subscription.reg.source source || list_any (is_new_at client made source) subscriptions)
+        ≡ list_any (is_new_at client made source) (cond b (subscription ∷ of_client client subscriptions) (of_client client subscriptions))
+    through true is rest = λ i. (sym is i && subscription.made == made) && matches subscription.reg.source source || rest i
     through false is rest = rest
 
 -- All after a latest post that was never mailed to the client caught up, where it may.
@@ -82,9 +82,9 @@ kept-caught names posts client number made place post answer inboxes before afte
     let made_at : own.entries ≡ made = at.0 in
     let fetched : own.fetched ≤ made = at.1 in
     let answers : answer ≡ list_any (is_new_for names own.entries post) own.lives
-    = is.catches ∙ new-own client made source is.variable.hearers
-    ∙ ap (list_any heard) ((all-at (IsHeardBy count inboxes) before.all place is.variable are.heard.heard is.there).each client below ∙ ap (λ var. hearers_of client var own.lives) named)
-    ∙ any-hearers client post.var heard (comes client) own.lives (new-alike names client made post client)
+    = is.catches ∙ new-own client made source is.variable.subscriptions
+    ∙ ap (list_any heard) ((all-at (IsHeardBy count inboxes) before.all place is.variable are.heard.heard is.there).each client below ∙ ap (λ var. subscriptions_of client var own.lives) named)
+    ∙ any-subscriptions client post.var heard (comes client) own.lives (new-alike names client made post client)
     ∙ (λ i. list_any (λ live. eq-eqb client client refl i && is_new_for names (sym made_at i) post live) own.lives) in
     let caught : catch own ≡ caught_if answer names number post own = caught-by names posts own number post answer there new answers in
     let come : (n : ℕ) → (now n).lives ≡ map (passed (comes n) post) (inboxes n).lives
@@ -93,7 +93,7 @@ kept-caught names posts client number made place post answer inboxes before afte
     (λ n apart. sym ((λ i. map (passed (λ live. ne_eqb n client apart i && is_new_for names made post live) post) (inboxes n).lives) ∙ map_fixed (λ live. live) (inboxes n).lives (λ k d within. refl))) in
     let numbered : number_of post.var before.numbers ≡ Some place = ap (λ var. number_of var before.numbers) (sym named) ∙ is.numbering.each place is.variable is.there in
     let alike = new-alike names client made post in
-    let later : VariableState = record is.variable { hearers = map (stamped heard post.stamp) is.variable.hearers; room = is.room } in
+    let later : VariableState = record is.variable { subscriptions = map (stamped heard post.stamp) is.variable.subscriptions; room = is.room } in
     record {
       clients = AreClients-set client catch inboxes states other
           (subst (λ inbox. IsClient inbox other) (sym caught)
@@ -119,7 +119,7 @@ kept-caught names posts client number made place post answer inboxes before afte
     now : ℕ → Inbox
     now = with_inbox client catch inboxes
 
-    heard : HearerState → Bool
+    heard : SubscriptionNow → Bool
     heard = is_new_at client made source
 
     comes : ℕ → Live → Bool

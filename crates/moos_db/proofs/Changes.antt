@@ -7,7 +7,7 @@ use Rattle.std.proofs.lemmas.Option.{get_or_from_slice_get, none-some, same_Some
 use Rattle.moos_post.specs.declared.value.Post.{Post}
 use Rattle.moos_post.specs.Delivery.{Inbox}
 use Rattle.moos_db.specs.Clients.{AreClients, ClientState, IsClient}
-use Rattle.moos_db.specs.Hearers.{AreHeard, AreKnown, AreNoted, AreNumbers, HasLatest, IsHeardBy, VariableState, VariablesState, name_at, with_inbox}
+use Rattle.moos_db.specs.Subscriptions.{AreHeard, AreKnown, AreNoted, AreNumbers, HasLatest, IsHeardBy, VariableState, VariablesState, name_at, with_inbox}
 use Rattle.moos_db.specs.Registering.{AreEach, AreEachAt, variable_names}
 use Rattle.moos_db.specs.Tables.{number_of, rows_of}
 

@@ -15,8 +15,8 @@ use Rattle.moos_post.proofs.Texts.{bytes_eq_comm}
 use Rattle.moos_db.specs.Database.{after_entry, AreLetters, AreMails, Database, letter_at, letter_of, origin_of, pair_posted}
 use Rattle.moos_db.specs.declared.mail.Letter.{Letter}
 use Rattle.moos_db.specs.Clients.{ClientState, IsClient}
-use Rattle.moos_db.specs.Hearers.{AreKnown, HasLatest, HearerState, hearers_of, IsHeardBy, HasKnown, of_client, VariableState, VariablesState, with_inbox}
-use Rattle.moos_db.specs.Places.{inboxes_after, IsDb, IsLog, Journal, place_at, post_in}
+use Rattle.moos_db.specs.Subscriptions.{AreKnown, HasLatest, SubscriptionNow, subscriptions_of, IsHeardBy, HasKnown, of_client, VariableState, VariablesState, with_inbox}
+use Rattle.moos_db.specs.Places.{inboxes_after, IsDb, IsLog, LogState, place_at, post_in}
 use Rattle.moos_db.specs.Registering.{catch_number, catch_post, StandsAt}
 use Rattle.moos_db.specs.Tables.{Row, rows_of, number_of}
 
@@ -174,7 +174,7 @@ post_left_out log = omega (arith, ap length log.placed)
 places_swapped : IsLog fetched letters (place_at 2 0 ∷ place_at 0 0 ∷ place_at 3 0 ∷ []) → ⊥
 places_swapped log = omega (arith, ap first_stamp log.placed)
 
-abbrev journal : Journal
+abbrev journal : LogState
 journal = record { entries = fetched; letters = letters }
 
 given : (k : ℕ) → k < 5 → slice_index_or letters k [] ≡ mail_at names fetched k
@@ -186,14 +186,14 @@ given (suc (suc (suc (suc zero)))) below = refl
 given (suc (suc (suc (suc (suc k))))) below = absurd (omega (arith, below))
 
 -- Client 0 hears A by its registration, and post 2 was the last that came through.
-abbrev hearer : ℕ → HearerState
-hearer stamp = record { client = 0; reg = all; made = 1; last = Some stamp }
+abbrev subscription : ℕ → SubscriptionNow
+subscription stamp = record { client = 0; reg = all; made = 1; last = Some stamp }
 
-abbrev variable : List HearerState → VariableState
-variable hearers = record { name = codes "A"; latest = Some 2; hearers = hearers; room = 0 }
+abbrev variable : List SubscriptionNow → VariableState
+variable subscriptions = record { name = codes "A"; latest = Some 2; subscriptions = subscriptions; room = 0 }
 
-abbrev variables : List HearerState → VariablesState
-variables hearers = record { all = variable hearers ∷ []; numbers = row (codes "A") 0 ∷ []; noted = 0 ∷ 0 ∷ 0 ∷ [] }
+abbrev variables : List SubscriptionNow → VariablesState
+variables subscriptions = record { all = variable subscriptions ∷ []; numbers = row (codes "A") 0 ∷ []; noted = 0 ∷ 0 ∷ 0 ∷ [] }
 
 abbrev first : ClientState
 first = record { lives = record { reg = all; made = 1 } ∷ []; mailed = 0 ∷ 2 ∷ []; waits = []; spare = 0; room = 0 }
@@ -206,10 +206,10 @@ are_clients = each_of (λ number one. IsClient (inboxes_after names fetched numb
     (each_of (λ number one. IsClient (inboxes_after names fetched (suc number)) one) second [] (record { lives = refl; mailed = refl; waits = refl })
     (each_of_none (λ number one. IsClient (inboxes_after names fetched (suc (suc number))) one)))
 
-is_heard : IsHeardBy 2 (inboxes_after names fetched) (variable (hearer 110 ∷ []))
-is_heard = record { each = by_each; within = All-cons (λ (one : HearerState). one.client < 2) (hearer 110) [] (omega arith) (All-nil (λ (one : HearerState). one.client < 2)) }
+is_heard : IsHeardBy 2 (inboxes_after names fetched) (variable (subscription 110 ∷ []))
+is_heard = record { each = by_each; within = All-cons (λ (one : SubscriptionNow). one.client < 2) (subscription 110) [] (omega arith) (All-nil (λ (one : SubscriptionNow). one.client < 2)) }
   where
-    by_each : (client : ℕ) → client < 2 → of_client client (hearer 110 ∷ []) ≡ hearers_of client (codes "A") (inboxes_after names fetched client).lives
+    by_each : (client : ℕ) → client < 2 → of_client client (subscription 110 ∷ []) ≡ subscriptions_of client (codes "A") (inboxes_after names fetched client).lives
     by_each zero below = refl
     by_each (suc zero) below = refl
     by_each (suc (suc client)) below = absurd (omega (arith, below))
@@ -227,7 +227,7 @@ are_known zero below = All-cons (HasKnown (row (codes "A") 0 ∷ [])) (record { 
 are_known (suc zero) below = All-nil (HasKnown (row (codes "A") 0 ∷ []))
 are_known (suc (suc client)) below = absurd (omega (arith, below))
 
-is_db : IsDb names journal (variables (hearer 110 ∷ [])) (first ∷ second ∷ [])
+is_db : IsDb names journal (variables (subscription 110 ∷ [])) (first ∷ second ∷ [])
 is_db = record {
   kept = record {
     few = omega arith;
@@ -235,8 +235,8 @@ is_db = record {
     kept = record {
       clients = are_clients;
       heard = record {
-        heard = All-cons (IsHeardBy 2 (inboxes_after names fetched)) (variable (hearer 110 ∷ [])) [] is_heard (All-nil (IsHeardBy 2 (inboxes_after names fetched)));
-        latest = All-cons (HasLatest (posts_of fetched)) (variable (hearer 110 ∷ [])) [] refl (All-nil (HasLatest (posts_of fetched)));
+        heard = All-cons (IsHeardBy 2 (inboxes_after names fetched)) (variable (subscription 110 ∷ [])) [] is_heard (All-nil (IsHeardBy 2 (inboxes_after names fetched)));
+        latest = All-cons (HasLatest (posts_of fetched)) (variable (subscription 110 ∷ [])) [] refl (All-nil (HasLatest (posts_of fetched)));
         known = are_known;
       };
     };
@@ -248,23 +248,23 @@ is_db = record {
 
 -- It is no such database where the fetch's letters lack one, a client isn't kept, nobody hears A, the stamp of an earlier post is
 -- kept, or the variable of a post isn't noted.
-letter_lost : IsDb names (record journal { letters = [] ∷ [] ∷ [] ∷ [] ∷ (2 ∷ []) ∷ [] }) (variables (hearer 110 ∷ [])) (first ∷ second ∷ []) → ⊥
+letter_lost : IsDb names (record journal { letters = [] ∷ [] ∷ [] ∷ [] ∷ (2 ∷ []) ∷ [] }) (variables (subscription 110 ∷ [])) (first ∷ second ∷ []) → ⊥
 letter_lost db = omega (arith, ap length (db.given 4 (omega arith)))
 
-client_lost : IsDb names journal (variables (hearer 110 ∷ [])) (first ∷ []) → ⊥
+client_lost : IsDb names journal (variables (subscription 110 ∷ [])) (first ∷ []) → ⊥
 client_lost db = omega (arith, db.kept.each)
 
-hearer_lost : IsDb names journal (variables []) (first ∷ second ∷ []) → ⊥
-hearer_lost db = omega (arith, ap length ((All-head (IsHeardBy 2 (inboxes_after names fetched)) (variable []) [] db.kept.kept.heard.heard).each 0 (omega arith)))
+subscription_lost : IsDb names journal (variables []) (first ∷ second ∷ []) → ⊥
+subscription_lost db = omega (arith, ap length ((All-head (IsHeardBy 2 (inboxes_after names fetched)) (variable []) [] db.kept.kept.heard.heard).each 0 (omega arith)))
 
-abbrev first_stamp_through : List HearerState → ℕ
+abbrev first_stamp_through : List SubscriptionNow → ℕ
 first_stamp_through [] = 0
 first_stamp_through (one ∷ later) = unwrap_or one.last 0
 
-earlier_stamp : IsDb names journal (variables (hearer 10 ∷ [])) (first ∷ second ∷ []) → ⊥
+earlier_stamp : IsDb names journal (variables (subscription 10 ∷ [])) (first ∷ second ∷ []) → ⊥
 earlier_stamp db =
-    let same : 10 ≡ 110 = ap first_stamp_through ((All-head (IsHeardBy 2 (inboxes_after names fetched)) (variable (hearer 10 ∷ [])) [] db.kept.kept.heard.heard).each 0 (omega arith)) in
+    let same : 10 ≡ 110 = ap first_stamp_through ((All-head (IsHeardBy 2 (inboxes_after names fetched)) (variable (subscription 10 ∷ [])) [] db.kept.kept.heard.heard).each 0 (omega arith)) in
     omega (arith, same)
 
-post_unnoted : IsDb names journal (record (variables (hearer 110 ∷ [])) { noted = 0 ∷ 0 ∷ [] }) (first ∷ second ∷ []) → ⊥
+post_unnoted : IsDb names journal (record (variables (subscription 110 ∷ [])) { noted = 0 ∷ 0 ∷ [] }) (first ∷ second ∷ []) → ⊥
 post_unnoted db = omega (arith, ap length db.kept.noted)

@@ -1,4 +1,4 @@
--- A post is mailed to the client of each hearer at which it is due, one hearer after the other.
+-- A post is mailed to the client of each subscription at which it is due, one subscription after the other.
 use Rattle.std.proofs.Common.{◌≡◌, ◌∙◌, ◌<◌, ◌≤◌, ◌+◌, ◌||◌, ◌&&◌, ℕ, Bool, true, false, cond, ◌==◌, List, [], ◌∷◌, ◌++◌, filter, get_or, length, set, slice_get, Some, refl, ap, sym, subst, inl, inr, if◌then◌else◌, arith}
 use Rattle.std.specs.List.{All, list_any}
 use Rattle.std.proofs.Math.Bool.{or-false, or-true}
@@ -10,23 +10,23 @@ use Rattle.std.proofs.lemmas.Option.{slice_get-get_or, slice_get_within}
 use Rattle.moos_mail.specs.Mailboxes.{is_one_of, with_number}
 use Rattle.moos_mail.proofs.Appending.{any_with}
 use Rattle.moos_db.specs.Clients.{ClientState, mailed_once}
-use Rattle.moos_db.specs.Hearers.{AreMailed, HasRoom, HearerState, hears_due, mailed_if, of_client}
+use Rattle.moos_db.specs.Subscriptions.{AreMailed, HasRoom, SubscriptionNow, hears_due, mailed_if, of_client}
 use Rattle.moos_db.proofs.Changes.{set-cases}
 
 -- so far, and a client to which it was not mailed yet is as it was
-pub record IsMailing (number stamp : ℕ) (source : List ℕ) (hearers : List HearerState) (before after : List ClientState) : Type 0 where
-  pub mailed : AreMailed number stamp source hearers before after
+pub record IsMailing (number stamp : ℕ) (source : List ℕ) (subscriptions : List SubscriptionNow) (before after : List ClientState) : Type 0 where
+  pub mailed : AreMailed number stamp source subscriptions before after
   pub others : (client : ℕ) (one other : ClientState) → slice_get before client ≡ Some one → slice_get after client ≡ Some other → is_one_of number other.mailed ≡ false → other ≡ one
 
--- one hearer more
-any-more : (test : HearerState → Bool) (client : ℕ) (hearers : List HearerState) (hearer : HearerState) →
-    list_any test (of_client client (hearers ++ hearer ∷ [])) ≡ (list_any test (of_client client hearers) || (hearer.client == client && test hearer))
-any-more test client hearers hearer =
-    ap (list_any test) (filter-append (λ (one : HearerState). one.client == client) hearers (hearer ∷ []))
-    ∙ list_any-append test (of_client client hearers) (filter (λ (one : HearerState). one.client == client) (hearer ∷ []))
-    ∙ ap (λ more. list_any test (of_client client hearers) || more) (alone (hearer.client == client) (test hearer) refl)
+-- one subscription more
+any-more : (test : SubscriptionNow → Bool) (client : ℕ) (subscriptions : List SubscriptionNow) (subscription : SubscriptionNow) →
+    list_any test (of_client client (subscriptions ++ subscription ∷ [])) ≡ (list_any test (of_client client subscriptions) || (subscription.client == client && test subscription))
+any-more test client subscriptions subscription =
+    ap (list_any test) (filter-append (λ (one : SubscriptionNow). one.client == client) subscriptions (subscription ∷ []))
+    ∙ list_any-append test (of_client client subscriptions) (filter (λ (one : SubscriptionNow). one.client == client) (subscription ∷ []))
+    ∙ ap (λ more. list_any test (of_client client subscriptions) || more) (alone (subscription.client == client) (test subscription) refl)
   where
-    alone : (own passes : Bool) → test hearer ≡ passes → list_any test (cond own (hearer ∷ []) []) ≡ own && passes
+    alone : (own passes : Bool) → test subscription ≡ passes → list_any test (cond own (subscription ∷ []) []) ≡ own && passes
     alone true true is = ap (λ b. b || false) is
     alone true false is = ap (λ b. b || false) is
     alone false passes is = refl
@@ -54,25 +54,25 @@ once-more false number first one new was is =
     by false = refl
 
 -- there is room for the post with a client to which it wasn't mailed yet
-pub mailing-room : (number stamp : ℕ) (source : List ℕ) (heard : List HearerState) (before after : List ClientState) (hearer : HearerState) (one : ClientState) → IsMailing number stamp source heard before after →
-    HasRoom before 1 hearer → slice_get after hearer.client ≡ Some one → is_one_of number one.mailed ≡ false → 1 ≤ one.spare
-mailing-room number stamp source heard before after hearer one state room there fresh =
-    let within : hearer.client < length before = omega (arith, slice_get_within after hearer.client one there, state.mailed.each) in
-    let was : slice_get before hearer.client ≡ Some (get_or before hearer.client one) = slice_get-get_or before hearer.client one within in
-    let same : one ≡ get_or before hearer.client one = state.others hearer.client (get_or before hearer.client one) one was there fresh in
-    let spare : one.spare ≡ (get_or before hearer.client one).spare = ap (λ (client : ClientState). client.spare) same in
-    omega (arith, room (get_or before hearer.client one) was)
+pub mailing-room : (number stamp : ℕ) (source : List ℕ) (heard : List SubscriptionNow) (before after : List ClientState) (subscription : SubscriptionNow) (one : ClientState) → IsMailing number stamp source heard before after →
+    HasRoom before 1 subscription → slice_get after subscription.client ≡ Some one → is_one_of number one.mailed ≡ false → 1 ≤ one.spare
+mailing-room number stamp source heard before after subscription one state room there fresh =
+    let within : subscription.client < length before = omega (arith, slice_get_within after subscription.client one there, state.mailed.each) in
+    let was : slice_get before subscription.client ≡ Some (get_or before subscription.client one) = slice_get-get_or before subscription.client one within in
+    let same : one ≡ get_or before subscription.client one = state.others subscription.client (get_or before subscription.client one) one was there fresh in
+    let spare : one.spare ≡ (get_or before subscription.client one).spare = ap (λ (client : ClientState). client.spare) same in
+    omega (arith, room (get_or before subscription.client one) was)
 
--- one hearer more, at which it isn't due
-pub mailing-passed : (number stamp : ℕ) (source : List ℕ) (heard : List HearerState) (before after : List ClientState) (hearer : HearerState) → IsMailing number stamp source heard before after →
-    hears_due stamp source hearer ≡ false → IsMailing number stamp source (heard ++ hearer ∷ []) before after
-mailing-passed number stamp source heard before after hearer state due = record {
+-- one subscription more, at which it isn't due
+pub mailing-passed : (number stamp : ℕ) (source : List ℕ) (heard : List SubscriptionNow) (before after : List ClientState) (subscription : SubscriptionNow) → IsMailing number stamp source heard before after →
+    hears_due stamp source subscription ≡ false → IsMailing number stamp source (heard ++ subscription ∷ []) before after
+mailing-passed number stamp source heard before after subscription state due = record {
   mailed = record {
     each = state.mailed.each;
     mail = λ client one other was is. state.mailed.mail client one other was is
         ∙ ap (λ b. record (mailed_if b number one) { spare = other.spare })
-        (sym (any-more (hears_due stamp source) client heard hearer ∙ ap (λ b. list_any (hears_due stamp source) (of_client client heard) || (hearer.client == client && b)) due
-        ∙ and-false (list_any (hears_due stamp source) (of_client client heard)) (hearer.client == client)));
+        (sym (any-more (hears_due stamp source) client heard subscription ∙ ap (λ b. list_any (hears_due stamp source) (of_client client heard) || (subscription.client == client && b)) due
+        ∙ and-false (list_any (hears_due stamp source) (of_client client heard)) (subscription.client == client)));
     room = state.mailed.room;
   };
   others = state.others;
@@ -83,48 +83,48 @@ mailing-passed number stamp source heard before after hearer state due = record 
     and-false false true = refl
     and-false false false = refl
 
--- one hearer more, at which it is due: its client is mailed it, unless it was
-pub mailing-due : (number stamp : ℕ) (source : List ℕ) (heard : List HearerState) (before after : List ClientState) (hearer : HearerState) (one new : ClientState) → IsMailing number stamp source heard before after →
-    All (λ (client : ClientState). is_one_of number client.mailed ≡ false) before → hears_due stamp source hearer ≡ true → slice_get after hearer.client ≡ Some one → new ≡ record (mailed_once number one) { spare = new.spare } →
-    one.spare ≤ new.spare + 1 → (is_one_of number one.mailed ≡ true → new ≡ one) → IsMailing number stamp source (heard ++ hearer ∷ []) before (set after hearer.client new)
-mailing-due number stamp source heard before after hearer one new state fresh due there once room again = record {
+-- one subscription more, at which it is due: its client is mailed it, unless it was
+pub mailing-due : (number stamp : ℕ) (source : List ℕ) (heard : List SubscriptionNow) (before after : List ClientState) (subscription : SubscriptionNow) (one new : ClientState) → IsMailing number stamp source heard before after →
+    All (λ (client : ClientState). is_one_of number client.mailed ≡ false) before → hears_due stamp source subscription ≡ true → slice_get after subscription.client ≡ Some one → new ≡ record (mailed_once number one) { spare = new.spare } →
+    one.spare ≤ new.spare + 1 → (is_one_of number one.mailed ≡ true → new ≡ one) → IsMailing number stamp source (heard ++ subscription ∷ []) before (set after subscription.client new)
+mailing-due number stamp source heard before after subscription one new state fresh due there once room again = record {
   mailed = record {
-    each = length-set after hearer.client new ∙ state.mailed.each;
-    mail = λ client first last was is. elim (set-cases after hearer.client client new last is) [
+    each = length-set after subscription.client new ∙ state.mailed.each;
+    mail = λ client first last was is. elim (set-cases after subscription.client client new last is) [
       | inl own ↦ subst (λ (l : ClientState). l ≡ record (mailed_if (any client) number first) { spare = l.spare }) (sym own.1)
           (once-more (so_far client) number first one new (state.mailed.mail client first one was (ap (slice_get after) own.0 ∙ there)) once
-          ∙ ap (λ b. record (mailed_if b number first) { spare = new.spare }) (sym (any-now client true (eq-eqb hearer.client client (sym own.0)) ∙ or-true (so_far client))))
+          ∙ ap (λ b. record (mailed_if b number first) { spare = new.spare }) (sym (any-now client true (eq-eqb subscription.client client (sym own.0)) ∙ or-true (so_far client))))
       | inr apart ↦ state.mailed.mail client first last was apart.1
-          ∙ ap (λ b. record (mailed_if b number first) { spare = last.spare }) (sym (any-now client false (ne_eqb hearer.client client (λ same. apart.0 (sym same))) ∙ or-false (so_far client)))
+          ∙ ap (λ b. record (mailed_if b number first) { spare = last.spare }) (sym (any-now client false (ne_eqb subscription.client client (λ same. apart.0 (sym same))) ∙ or-false (so_far client)))
     ];
-    room = λ client first last was is. elim (set-cases after hearer.client client new last is) [
+    room = λ client first last was is. elim (set-cases after subscription.client client new last is) [
       | inl own ↦ subst (λ (l : ClientState). first.spare ≤ l.spare + 1) (sym own.1) (own-room first (ap (slice_get before) (sym own.0) ∙ was) (is_one_of number one.mailed) refl)
       | inr apart ↦ state.mailed.room client first last was apart.1
     ];
   };
-  others = λ client first last was is none. elim (set-cases after hearer.client client new last is) [
+  others = λ client first last was is none. elim (set-cases after subscription.client client new last is) [
     | inl own ↦ absurd (false≢true (sym none ∙ ap (λ (c : ClientState). is_one_of number c.mailed) (own.1 ∙ once) ∙ is-mailed number one))
     | inr apart ↦ state.others client first last was apart.1 none
   ];
 }
   where
     any : ℕ → Bool
-    any client = list_any (hears_due stamp source) (of_client client (heard ++ hearer ∷ []))
+    any client = list_any (hears_due stamp source) (of_client client (heard ++ subscription ∷ []))
 
     so_far : ℕ → Bool
     so_far client = list_any (hears_due stamp source) (of_client client heard)
 
-    any-now : (client : ℕ) (own : Bool) → (hearer.client == client) ≡ own → any client ≡ (so_far client || own)
-    any-now client own is = any-more (hears_due stamp source) client heard hearer ∙ (λ i. so_far client || (is i && due i)) ∙ by own
+    any-now : (client : ℕ) (own : Bool) → (subscription.client == client) ≡ own → any client ≡ (so_far client || own)
+    any-now client own is = any-more (hears_due stamp source) client heard subscription ∙ (λ i. so_far client || (is i && due i)) ∙ by own
       where
         by : (b : Bool) → (so_far client || (b && true)) ≡ (so_far client || b)
         by true = refl
         by false = refl
 
-    own-room : (first : ClientState) → slice_get before hearer.client ≡ Some first → (mailed : Bool) → is_one_of number one.mailed ≡ mailed → first.spare ≤ new.spare + 1
+    own-room : (first : ClientState) → slice_get before subscription.client ≡ Some first → (mailed : Bool) → is_one_of number one.mailed ≡ mailed → first.spare ≤ new.spare + 1
     own-room first was true mailed =
         let spare : new.spare ≡ one.spare = ap (λ (c : ClientState). c.spare) (again mailed) in
-        omega (arith, state.mailed.room hearer.client first one was there)
+        omega (arith, state.mailed.room subscription.client first one was there)
     own-room first was false mailed =
-        let spare : one.spare ≡ first.spare = ap (λ (c : ClientState). c.spare) (state.others hearer.client first one was there mailed) in
+        let spare : one.spare ≡ first.spare = ap (λ (c : ClientState). c.spare) (state.others subscription.client first one was there mailed) in
         omega (arith, room)

@@ -13,26 +13,26 @@ use Rattle.moos_post.specs.Delivery.{Inbox, Live}
 use Rattle.moos_post.specs.Patterns.{matches}
 use Rattle.moos_db.specs.declared.registration.Registration.{Registration}
 use Rattle.moos_db.specs.Clients.{ClientState, IsClient, registration_of}
-use Rattle.moos_db.specs.Hearers.{AreHeard, AreKeptAs, AreKnown, HearerState, IsHeardBy, HasKnown, VariableState, VariablesState, fresh_hearer, fresh_hearers, hearers_of, of_client, with_lives}
+use Rattle.moos_db.specs.Subscriptions.{AreHeard, AreKeptAs, AreKnown, SubscriptionNow, IsHeardBy, HasKnown, VariableState, VariablesState, fresh_subscription, fresh_subscriptions, subscriptions_of, of_client, with_lives}
 use Rattle.moos_db.specs.Registering.{AreEach, AreEachAt, AreStill, HasRoomThrough, HaveRoomFor, Heard, IsAddedTo, IsPrepared, KeepsRoom, IsStill, PreparedState, heard_at_number, heard_through, heard_where, variable_names, with_prepared}
 use Rattle.moos_db.proofs.AfterRegistering.{at-append, at-other, at-own, each-refl, each-set, each-then}
 use Rattle.moos_db.proofs.Changes.{AreClients-set, at-each, changed-twice, each-shown, heard-changed, IsHeardSo}
-use Rattle.moos_db.proofs.Hearing.{fresh-within, hearers-more, others-more, own-more}
+use Rattle.moos_db.proofs.Hearing.{fresh-within, subscriptions-more, others-more, own-more}
 
 -- who is to hear a variable
 
-where-own : (client : ℕ) (live : Registration) (number : ℕ) (name : List ℕ) → heard_at_number number (heard_where client live number name) ≡ fresh_hearers client name (live ∷ [])
+where-own : (client : ℕ) (live : Registration) (number : ℕ) (name : List ℕ) → heard_at_number number (heard_where client live number name) ≡ fresh_subscriptions client name (live ∷ [])
 where-own client live number name = by (matches live.reg.var name)
   where
-    by : (b : Bool) → heard_at_number number (if b then (number, fresh_hearer client live) ∷ [] else []) ≡ map (fresh_hearer client) (cond b (live ∷ []) [])
-    by true = at-own number (fresh_hearer client live) []
+    by : (b : Bool) → heard_at_number number (if b then (number, fresh_subscription client live) ∷ [] else []) ≡ map (fresh_subscription client) (cond b (live ∷ []) [])
+    by true = at-own number (fresh_subscription client live) []
     by false = refl
 
 where-other : (client : ℕ) (live : Registration) (number other : ℕ) (name : List ℕ) → other ≢ number → heard_at_number other (heard_where client live number name) ≡ []
 where-other client live number other name apart = by (matches live.reg.var name)
   where
-    by : (b : Bool) → heard_at_number other (if b then (number, fresh_hearer client live) ∷ [] else []) ≡ []
-    by true = at-other number other (fresh_hearer client live) apart
+    by : (b : Bool) → heard_at_number other (if b then (number, fresh_subscription client live) ∷ [] else []) ≡ []
+    by true = at-other number other (fresh_subscription client live) apart
     by false = refl
 
 through-other : (client : ℕ) (live : Registration) (from number : ℕ) (name : List ℕ) (names : List (List ℕ)) → number ≢ from →
@@ -45,18 +45,18 @@ through-past : (client : ℕ) (live : Registration) (from number : ℕ) (names :
 through-past client live from number [] below = refl
 through-past client live from number (name ∷ names) below = through-other client live from number name names (λ same. omega (arith, same)) ∙ through-past client live (suc from) number names (omega arith)
 
-through-own : (client : ℕ) (live : Registration) (from : ℕ) (name : List ℕ) (names : List (List ℕ)) → heard_at_number from (heard_through client live from (name ∷ names)) ≡ fresh_hearers client name (live ∷ [])
+through-own : (client : ℕ) (live : Registration) (from : ℕ) (name : List ℕ) (names : List (List ℕ)) → heard_at_number from (heard_through client live from (name ∷ names)) ≡ fresh_subscriptions client name (live ∷ [])
 through-own client live from name names =
     at-append from (heard_where client live from name) (heard_through client live (suc from) names)
     ∙ ap (λ rest. heard_at_number from (heard_where client live from name) ++ rest) (through-past client live (suc from) from names (omega arith))
     ∙ append-nil (heard_at_number from (heard_where client live from name)) ∙ where-own client live from name
 
 through-at : (client : ℕ) (live : Registration) (from number : ℕ) (names : List (List ℕ)) (name : List ℕ) → slice_get names number ≡ Some name →
-    heard_at_number (from + number) (heard_through client live from names) ≡ fresh_hearers client name (live ∷ [])
+    heard_at_number (from + number) (heard_through client live from names) ≡ fresh_subscriptions client name (live ∷ [])
 through-at client live from number [] name there = absurd (let e : None ≡ Some name = there in cc)
 through-at client live from zero (one ∷ names) name there =
     ap (λ n. heard_at_number n (heard_through client live from (one ∷ names))) (let e : from + 0 ≡ from = omega arith in e)
-    ∙ through-own client live from one names ∙ ap (λ name. fresh_hearers client name (live ∷ [])) (same_Some one name there)
+    ∙ through-own client live from one names ∙ ap (λ name. fresh_subscriptions client name (live ∷ [])) (same_Some one name there)
 through-at client live from (suc number) (one ∷ names) name there =
     through-other client live from (from + suc number) one names (λ same. omega (arith, same))
     ∙ ap (λ n. heard_at_number n (heard_through client live (suc from) names)) (let e : from + suc number ≡ suc from + number = omega arith in e) ∙ through-at client live (suc from) number names name there
@@ -66,11 +66,11 @@ through-few client live from number [] = omega arith
 through-few client live from number (name ∷ names) = elim (cases_Bool (number == from)) [
   | inl same ↦
       subst (λ n. length (heard_at_number n (heard_through client live from (name ∷ names))) ≤ 1) (sym (eqb-true number from same))
-      (subst (λ (hearers : List HearerState). length hearers ≤ 1) (sym (through-own client live from name names)) (by (matches live.reg.var name)))
-  | inr apart ↦ subst (λ (hearers : List HearerState). length hearers ≤ 1) (sym (through-other client live from number name names (eqb-false number from apart))) (through-few client live (suc from) number names)
+      (subst (λ (subscriptions : List SubscriptionNow). length subscriptions ≤ 1) (sym (through-own client live from name names)) (by (matches live.reg.var name)))
+  | inr apart ↦ subst (λ (subscriptions : List SubscriptionNow). length subscriptions ≤ 1) (sym (through-other client live from number name names (eqb-false number from apart))) (through-few client live (suc from) number names)
 ]
   where
-    by : (b : Bool) → length (map (fresh_hearer client) (cond b (live ∷ []) [])) ≤ 1
+    by : (b : Bool) → length (map (fresh_subscription client) (cond b (live ∷ []) [])) ≤ 1
     by true = omega arith
     by false = omega arith
 
@@ -79,13 +79,13 @@ through-within client live from [] end below = All-nil (λ (one : Heard). one.0 
 through-within client live from (name ∷ names) end below =
     All-append (λ (one : Heard). one.0 < end) (heard_where client live from name) (heard_through client live (suc from) names) (by (matches live.reg.var name)) (through-within client live (suc from) names end (omega arith))
   where
-    by : (b : Bool) → All (λ (one : Heard). one.0 < end) (if b then (from, fresh_hearer client live) ∷ [] else [])
-    by true = All-cons (λ (one : Heard). one.0 < end) (from, fresh_hearer client live) [] (omega (arith, below)) (All-nil (λ (one : Heard). one.0 < end))
+    by : (b : Bool) → All (λ (one : Heard). one.0 < end) (if b then (from, fresh_subscription client live) ∷ [] else [])
+    by true = All-cons (λ (one : Heard). one.0 < end) (from, fresh_subscription client live) [] (omega (arith, below)) (All-nil (λ (one : Heard). one.0 < end))
     by false = All-nil (λ (one : Heard). one.0 < end)
 
 -- who is to hear the variable with this number
 through-named : (client : ℕ) (live : Registration) (variables : List VariableState) (number : ℕ) (variable : VariableState) → slice_get variables number ≡ Some variable →
-    heard_at_number number (heard_through client live 0 (variable_names variables)) ≡ fresh_hearers client variable.name (live ∷ [])
+    heard_at_number number (heard_through client live 0 (variable_names variables)) ≡ fresh_subscriptions client variable.name (live ∷ [])
 through-named client live variables number variable there =
     ap (λ n. heard_at_number n (heard_through client live 0 (variable_names variables))) (let e : number ≡ 0 + number = omega arith in e)
     ∙ through-at client live 0 number (variable_names variables) variable.name (slice_get-map (λ (one : VariableState). one.name) variables number ∙ ap (option_map (λ (one : VariableState). one.name)) there)
@@ -99,9 +99,9 @@ room-through client live before after still room number variable there =
     let name : variable.name ≡ had.0.name = ap (λ (v : VariableState). v.name) is.same in
     let more : matches live.reg.var variable.name ≡ true → 1 ≤ variable.room
     = λ matched. let h : 1 ≤ had.0.room = room number had.0 had.1 (ap (matches live.reg.var) (sym name) ∙ matched) in omega (arith, h, is.room) in
-    subst (λ (hearers : List HearerState). length hearers ≤ variable.room) (sym (through-named client live after number variable there)) (by (matches live.reg.var variable.name) more)
+    subst (λ (subscriptions : List SubscriptionNow). length subscriptions ≤ variable.room) (sym (through-named client live after number variable there)) (by (matches live.reg.var variable.name) more)
   where
-    by : (b : Bool) → (b ≡ true → 1 ≤ variable.room) → length (map (fresh_hearer client) (cond b (live ∷ []) [])) ≤ variable.room
+    by : (b : Bool) → (b ≡ true → 1 ≤ variable.room) → length (map (fresh_subscription client) (cond b (live ∷ []) [])) ≤ variable.room
     by true more = more refl
     by false more = omega arith
 
@@ -119,7 +119,7 @@ module _ (client : ℕ) (live : Registration) (inboxes : ℕ → Inbox) where
   abbrev made : Inbox → Inbox
   made inbox = record inbox { lives = more inbox.lives }
 
-  variable-made : (clients : ℕ) (variable other : VariableState) → client < clients → other ≡ record variable { hearers = variable.hearers ++ fresh_hearers client variable.name (live ∷ []); room = other.room } →
+  variable-made : (clients : ℕ) (variable other : VariableState) → client < clients → other ≡ record variable { subscriptions = variable.subscriptions ++ fresh_subscriptions client variable.name (live ∷ []); room = other.room } →
       IsHeardSo clients inboxes (with_lives client more inboxes) variable other
   variable-made clients variable other below same =
       let own : List Registration = filter (λ one. matches one.reg.var variable.name) (live ∷ []) in
@@ -127,10 +127,10 @@ module _ (client : ℕ) (live : Registration) (inboxes : ℕ → Inbox) where
         name = ap (λ (v : VariableState). v.name) same;
         latest = ap (λ (v : VariableState). v.latest) same;
         heard = λ heard. subst (IsHeardBy clients (with_lives client more inboxes)) (sym same) (record {
-          each = at-each client made inboxes (λ n inbox. n < clients → of_client n (variable.hearers ++ fresh_hearers client variable.name (live ∷ [])) ≡ hearers_of n variable.name inbox.lives)
-              (λ low. own-more client variable.hearers own ∙ ap (λ front. front ++ fresh_hearers client variable.name (live ∷ [])) (heard.each client low) ∙ sym (hearers-more client variable.name (inboxes client).lives live))
-              (λ n apart low. others-more client n variable.hearers own (ne_eqb client n (λ same. apart (sym same))) ∙ heard.each n low);
-          within = All-append (λ (hearer : HearerState). hearer.client < clients) variable.hearers (fresh_hearers client variable.name (live ∷ [])) heard.within (fresh-within client clients own below);
+          each = at-each client made inboxes (λ n inbox. n < clients → of_client n (variable.subscriptions ++ fresh_subscriptions client variable.name (live ∷ [])) ≡ subscriptions_of n variable.name inbox.lives)
+              (λ low. own-more client variable.subscriptions own ∙ ap (λ front. front ++ fresh_subscriptions client variable.name (live ∷ [])) (heard.each client low) ∙ sym (subscriptions-more client variable.name (inboxes client).lives live))
+              (λ n apart low. others-more client n variable.subscriptions own (ne_eqb client n (λ same. apart (sym same))) ∙ heard.each n low);
+          within = All-append (λ (subscription : SubscriptionNow). subscription.client < clients) variable.subscriptions (fresh_subscriptions client variable.name (live ∷ [])) heard.within (fresh-within client clients own below);
         });
       }
 
@@ -153,7 +153,7 @@ module _ (client : ℕ) (live : Registration) (inboxes : ℕ → Inbox) where
               each = added.each;
               same = λ n was is first last.
                   let so : IsAddedTo (heard_through client live 0 (variable_names before.all)) n was is = added.same n was is first last in
-                  variable-made (length states) was is below (so.same ∙ ap (λ hearers. record was { hearers = was.hearers ++ hearers; room = is.room }) (through-named client live before.all n was first));
+                  variable-made (length states) was is below (so.same ∙ ap (λ subscriptions. record was { subscriptions = was.subscriptions ++ subscriptions; room = is.room }) (through-named client live before.all n was first));
             })
             (subst (AreKnown (length states) (with_lives client more inboxes)) (sym numbers)
             (at-each client made inboxes (λ n inbox. n < length states → All (HasKnown before.numbers) inbox.lives)
@@ -169,8 +169,8 @@ still-made client live first before after clients states one other still added n
   variables =
       each-then (λ n. IsStill 0) (IsAddedTo (heard_through client live 0 (variable_names before.all))) (λ n. IsStill 1) first.all before.all after.all
       (λ n x y z was is. record {
-        same = is.same ∙ ap (λ (v : VariableState). record v { hearers = y.hearers ++ heard_at_number n (heard_through client live 0 (variable_names before.all)); room = z.room }) was.same
-            ∙ ap (λ (v : VariableState). record x { hearers = v.hearers; room = z.room }) (sym is.same);
+        same = is.same ∙ ap (λ (v : VariableState). record v { subscriptions = y.subscriptions ++ heard_at_number n (heard_through client live 0 (variable_names before.all)); room = z.room }) was.same
+            ∙ ap (λ (v : VariableState). record x { subscriptions = v.subscriptions; room = z.room }) (sym is.same);
         room = omega (arith, was.room, is.room, through-few client live 0 n (variable_names before.all));
       }) still.variables added;
   clients =
@@ -184,7 +184,7 @@ still-made client live first before after clients states one other still added n
 -- the next is still prepared
 pub ready-next : (client more used : ℕ) (before now : List VariableState) (one : PreparedState) → IsPrepared client more before one → AreEach (IsStill used) before now → used + 1 ≤ more → IsPrepared client 1 now one
 ready-next client more used before now one ready still left = record {
-  hearers = ready.hearers ∙ ap (heard_through client one.live 0) (sym (still-names used before now still));
+  subscriptions = ready.subscriptions ∙ ap (heard_through client one.live 0) (sym (still-names used before now still));
   room = λ number variable there matched.
       let had : (x : VariableState) × (slice_get before number ≡ Some x) = found-below before number (omega (arith, still.each, slice_get_within now number variable there)) in
       let is : IsStill used had.0 variable = still.same number had.0 variable had.1 there in
@@ -197,7 +197,7 @@ pub still-more : (used : ℕ) (first before after : VariablesState) (clients sta
 still-more used first before after clients states others was is = record {
   variables = each-then (λ n. IsStill used) (λ n. IsStill 1) (λ n. IsStill (used + 1)) first.all before.all after.all
       (λ n x y z one two. record {
-        same = two.same ∙ ap (λ (v : VariableState). record v { hearers = z.hearers; room = z.room }) one.same;
+        same = two.same ∙ ap (λ (v : VariableState). record v { subscriptions = z.subscriptions; room = z.room }) one.same;
         room = omega (arith, one.room, two.room);
       }) was.variables is.variables;
   clients = each-then (λ n. KeepsRoom used) (λ n. KeepsRoom 1) (λ n. KeepsRoom (used + 1)) clients states others

@@ -27,7 +27,7 @@ use Rattle.moos_post.specs.History.{History, posts_of}
 use Rattle.moos_post.specs.Patterns.{matches}
 use Rattle.moos_db.specs.declared.registration.Registration.{Registration}
 use Rattle.moos_db.specs.Clients.{ClientState, is_with_patterns, registration_of}
-use Rattle.moos_db.specs.Hearers.{AreKeptAs, AreKnown, AreNoted, HasLatest, IsHeardBy, VariableState, VariablesState, fresh_hearer, name_at, with_inbox, with_lives}
+use Rattle.moos_db.specs.Subscriptions.{AreKeptAs, AreKnown, AreNoted, HasLatest, IsHeardBy, VariableState, VariablesState, fresh_subscription, name_at, with_inbox, with_lives}
 use Rattle.moos_db.specs.Places.{AreKept, inboxes_after}
 use Rattle.moos_db.specs.Registering.{AreEach, AreRoomier, HasRoomThrough, Heard, IsPrepared, IsRoomier, PreparedState, StandsAt, catch_number, heard_through, heard_where, latest_at, latest_heard, latest_prepared, variable_names, prepared_of, with_prepared}
 use Rattle.moos_db.specs.Tables.{number_of, rows_of}
@@ -105,9 +105,9 @@ heard-from variables number (one ∷ all) is =
 prepared-from : (variables : List VariableState) (number : ℕ) (all : List PreparedState) → is_one_of number (latest_prepared variables all) ≡ true → (place : ℕ) × (latest_at variables place ≡ Some number)
 prepared-from variables number [] is = absurd (let e : false ≡ true = is in cc)
 prepared-from variables number (one ∷ all) is =
-    elim (or_cases (is_one_of number (latest_heard variables one.hearers)) (is_one_of number (latest_prepared variables all))
-    (sym (list_any-append (λ x. x == number) (latest_heard variables one.hearers) (latest_prepared variables all)) ∙ is)) [
-      | inl here ↦ heard-from variables number one.hearers here
+    elim (or_cases (is_one_of number (latest_heard variables one.subscriptions)) (is_one_of number (latest_prepared variables all))
+    (sym (list_any-append (λ x. x == number) (latest_heard variables one.subscriptions) (latest_prepared variables all)) ∙ is)) [
+      | inl here ↦ heard-from variables number one.subscriptions here
       | inr later ↦ prepared-from variables number all later
     ]
 
@@ -122,7 +122,7 @@ heard-to variables client live from zero number (one ∷ names) name there match
     let own : latest_at variables from ≡ Some number = ap (latest_at variables) (let e : from ≡ from + 0 = omega arith in e) ∙ latest in
     one-more variables number (heard_where client live from one) (heard_through client live (suc from) names)
     ∙ or_left (is_one_of number (latest_heard variables (heard_where client live from one))) (is_one_of number (latest_heard variables (heard_through client live (suc from) names)))
-    (ap (λ b. is_one_of number (latest_heard variables (if b then (from, fresh_hearer client live) ∷ [] else []))) (ap (matches live.reg.var) (same_Some one name there) ∙ matched)
+    (ap (λ b. is_one_of number (latest_heard variables (if b then (from, fresh_subscription client live) ∷ [] else []))) (ap (matches live.reg.var) (same_Some one name there) ∙ matched)
     ∙ ap (λ found. is_one_of number (option_to_list found ++ [])) own ∙ or_left (number == number) false (eq-eqb number number refl))
 heard-to variables client live from (suc place) number (one ∷ names) name there matched latest =
     one-more variables number (heard_where client live from one) (heard_through client live (suc from) names)
@@ -133,13 +133,13 @@ prepared-to : (variables : List VariableState) (client made place number : ℕ) 
     latest_at variables place ≡ Some number → is_one_of number (latest_prepared variables (map (prepared_of client made names) regs)) ≡ true
 prepared-to variables client made place number names name [] there matched latest = absurd (let e : false ≡ true = matched in cc)
 prepared-to variables client made place number names name (reg ∷ regs) there matched latest =
-    list_any-append (λ x. x == number) (latest_heard variables (prepared_of client made names reg).hearers) (latest_prepared variables (map (prepared_of client made names) regs))
+    list_any-append (λ x. x == number) (latest_heard variables (prepared_of client made names reg).subscriptions) (latest_prepared variables (map (prepared_of client made names) regs))
     ∙ (elim (or_cases (matches reg.var name) (list_any (λ (one : Reg). matches one.var name) regs) matched) [
       | inl here ↦
-          or_left (is_one_of number (latest_heard variables (prepared_of client made names reg).hearers)) (is_one_of number (latest_prepared variables (map (prepared_of client made names) regs)))
+          or_left (is_one_of number (latest_heard variables (prepared_of client made names reg).subscriptions)) (is_one_of number (latest_prepared variables (map (prepared_of client made names) regs)))
           (heard-to variables client (record { reg = reg; made = made }) 0 place number names name there here (ap (latest_at variables) (let e : 0 + place ≡ place = omega arith in e) ∙ latest))
       | inr later ↦
-          or_right (is_one_of number (latest_heard variables (prepared_of client made names reg).hearers)) (is_one_of number (latest_prepared variables (map (prepared_of client made names) regs)))
+          or_right (is_one_of number (latest_heard variables (prepared_of client made names reg).subscriptions)) (is_one_of number (latest_prepared variables (map (prepared_of client made names) regs)))
           (prepared-to variables client made place number names name regs there later latest)
     ])
 
@@ -299,7 +299,7 @@ all-ready client made before after regs all prepared roomier room =
     (All-map (IsPrepared client (length all) after) (prepared_of client made (variable_names before)) regs
     (All-weaker (λ (reg : Reg). HasRoomThrough (length regs) reg.var after) (λ reg. IsPrepared client (length all) after (prepared_of client made (variable_names before) reg))
     (λ reg fits. record {
-      hearers = ap (heard_through client (record { reg = reg; made = made }) 0) (sym (roomier-names before after roomier));
+      subscriptions = ap (heard_through client (record { reg = reg; made = made }) 0) (sym (roomier-names before after roomier));
       room = subst (λ n. HasRoomThrough n reg.var after) long fits;
     }) regs room))
 

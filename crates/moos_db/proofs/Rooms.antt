@@ -9,13 +9,13 @@ use Rattle.moos_mail.proofs.Lists.{found-below}
 use Rattle.moos_post.specs.declared.value.Post.{Post}
 use Rattle.moos_post.specs.Delivery.{Inbox}
 use Rattle.moos_db.specs.Clients.{ClientState}
-use Rattle.moos_db.specs.Hearers.{AreAlike, AreHeard, AreReady, HasRoom, HearerState, VariableState, VariablesState}
+use Rattle.moos_db.specs.Subscriptions.{AreAlike, AreHeard, AreReady, HasRoom, SubscriptionNow, VariableState, VariablesState}
 use Rattle.moos_db.proofs.Changes.{set-cases}
 
 -- there is so much room with each that hears one of these posts
 abbrev pub HaveRoomTo : List ClientState → VariablesState → ℕ → ℕ → ℕ → Type 0
 HaveRoomTo clients variables from end more = (post number : ℕ) (variable : VariableState) → from ≤ post → post < end → slice_get variables.noted post ≡ Some number →
-    slice_get variables.all number ≡ Some variable → All (HasRoom clients more) variable.hearers
+    slice_get variables.all number ≡ Some variable → All (HasRoom clients more) variable.subscriptions
 
 -- a client with which room was made is as it was but for that
 pub alike-set : (before after : List ClientState) (i : ℕ) (one new : ClientState) → AreAlike before after → one ≡ get_or after i one → new ≡ record one { spare = new.spare } → AreAlike before (set after i new)
@@ -31,30 +31,30 @@ alike-set before after i one new alike was is = record {
 }
 
 -- there is still room with each client after some was made with one
-pub room-set : (clients : List ClientState) (i more : ℕ) (new : ClientState) (hearer : HearerState) → more ≤ new.spare → HasRoom clients more hearer → HasRoom (set clients i new) more hearer
-room-set clients i more new hearer made room client there = elim (set-cases clients i hearer.client new client there) [
+pub room-set : (clients : List ClientState) (i more : ℕ) (new : ClientState) (subscription : SubscriptionNow) → more ≤ new.spare → HasRoom clients more subscription → HasRoom (set clients i new) more subscription
+room-set clients i more new subscription made room client there = elim (set-cases clients i subscription.client new client there) [
   | inl own ↦ subst (λ (c : ClientState). more ≤ c.spare) (sym own.1) made
   | inr apart ↦ room client apart.1
 ]
 
-pub rooms-set : (clients : List ClientState) (i more : ℕ) (new : ClientState) (hearers : List HearerState) → more ≤ new.spare → All (HasRoom clients more) hearers → All (HasRoom (set clients i new) more) hearers
-rooms-set clients i more new hearers made = All-weaker (HasRoom clients more) (HasRoom (set clients i new) more) (λ hearer. room-set clients i more new hearer made) hearers
+pub rooms-set : (clients : List ClientState) (i more : ℕ) (new : ClientState) (subscriptions : List SubscriptionNow) → more ≤ new.spare → All (HasRoom clients more) subscriptions → All (HasRoom (set clients i new) more) subscriptions
+rooms-set clients i more new subscriptions made = All-weaker (HasRoom clients more) (HasRoom (set clients i new) more) (λ subscription. room-set clients i more new subscription made) subscriptions
 
 -- there is with that client
-pub room-own : (clients : List ClientState) (i more : ℕ) (new : ClientState) (hearer : HearerState) → more ≤ new.spare → i ≡ hearer.client → HasRoom (set clients i new) more hearer
-room-own clients i more new hearer made same client there = elim (set-cases clients i hearer.client new client there) [
+pub room-own : (clients : List ClientState) (i more : ℕ) (new : ClientState) (subscription : SubscriptionNow) → more ≤ new.spare → i ≡ subscription.client → HasRoom (set clients i new) more subscription
+room-own clients i more new subscription made same client there = elim (set-cases clients i subscription.client new client there) [
   | inl own ↦ subst (λ (c : ClientState). more ≤ c.spare) (sym own.1) made
   | inr apart ↦ absurd (apart.0 (sym same))
 ]
 
 -- with those that hear one post more
 pub HaveRoomTo-more : (clients : List ClientState) (variables : VariablesState) (from end more at : ℕ) (here : VariableState) → HaveRoomTo clients variables from end more → slice_get variables.noted end ≡ Some at →
-    slice_get variables.all at ≡ Some here → All (HasRoom clients more) here.hearers → HaveRoomTo clients variables from (end + 1) more
+    slice_get variables.all at ≡ Some here → All (HasRoom clients more) here.subscriptions → HaveRoomTo clients variables from (end + 1) more
 HaveRoomTo-more clients variables from end more at here rooms noted stands room post number variable low high found there = elim (cases_Bool (end == post)) [
   | inl same ↦
       let number_is : number ≡ at = same_Some number at (sym (subst (λ n. slice_get variables.noted n ≡ Some number) (sym (eqb-true end post same)) found) ∙ noted) in
       let is : variable ≡ here = same_Some variable here (sym (subst (λ n. slice_get variables.all n ≡ Some variable) number_is there) ∙ stands) in
-      subst (λ (one : VariableState). All (HasRoom clients more) one.hearers) (sym is) room
+      subst (λ (one : VariableState). All (HasRoom clients more) one.subscriptions) (sym is) room
   | inr apart ↦ rooms post number variable low (omega (arith, high, eqb-false end post apart)) found there
 ]
 

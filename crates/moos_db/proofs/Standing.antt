@@ -10,7 +10,7 @@ use Rattle.moos_post.specs.declared.entry.Entry.{Entry}
 use Rattle.moos_post.specs.declared.value.Pair.{Pair}
 use Rattle.moos_post.specs.declared.value.Post.{Post}
 use Rattle.moos_post.specs.History.{History, post_of, posts_of, posts_of_call, posts_of_entry}
-use Rattle.moos_db.specs.declared.log.Place.{Place}
+use Rattle.moos_db.specs.declared.log.PostPlace.{PostPlace}
 use Rattle.moos_db.specs.declared.mail.Origin.{Origin}
 use Rattle.moos_db.specs.Database.{origin_of}
 use Rattle.moos_db.specs.Places.{post_in, place_at, IsLog}
@@ -21,7 +21,7 @@ slice_get-seam [] x ys = refl
 slice_get-seam (y ∷ xs) x ys = slice_get-seam xs x ys
 
 -- a post that stands at a place still stands there after one entry more
-post_in-stays : (entries : History) (entry : Entry) (place : Place) (post : Post) → post_in entries place ≡ Some post → post_in (entries ++ entry ∷ []) place ≡ Some post
+post_in-stays : (entries : History) (entry : Entry) (place : PostPlace) (post : Post) → post_in entries place ≡ Some post → post_in (entries ++ entry ∷ []) place ≡ Some post
 post_in-stays entries entry place post there = post_in-through (slice_get entries place.entry) refl there
   where
     post_in-through : (found : Option Entry) → slice_get entries place.entry ≡ found → option_and_then (λ one. slice_get (posts_of_entry one) place.pair) found ≡ Some post →
@@ -29,7 +29,7 @@ post_in-stays entries entry place post there = post_in-through (slice_get entrie
     post_in-through None is there' = absurd (let e : None ≡ Some post = there' in cc)
     post_in-through (Some one) is there' = ap (option_and_then (λ one. slice_get (posts_of_entry one) place.pair)) (slice_get-front entries (entry ∷ []) place.entry one is) ∙ there'
 
-placed-stays : (entries : History) (entry : Entry) (places : List Place) (posts : List Post) → map (post_in entries) places ≡ map (λ post. Some post) posts →
+placed-stays : (entries : History) (entry : Entry) (places : List PostPlace) (posts : List Post) → map (post_in entries) places ≡ map (λ post. Some post) posts →
     map (post_in (entries ++ entry ∷ [])) places ≡ map (λ post. Some post) posts
 placed-stays entries entry [] posts placed = placed
 placed-stays entries entry (place ∷ places) [] placed = absurd (let e : post_in entries place ∷ map (post_in entries) places ≡ [] = placed in cc)
@@ -57,7 +57,7 @@ length-posts stamp client (Posts batch) = length-map batch (post_of 0 0) ∙ sym
 length-posts stamp client Fetch = refl
 
 -- One entry more, with its letters and its places.
-pub IsLog-push : (entries : History) (letters : List (List ℕ)) (places : List Place) (entry : Entry) (numbers : List ℕ) → IsLog entries letters places →
+pub IsLog-push : (entries : History) (letters : List (List ℕ)) (places : List PostPlace) (entry : Entry) (numbers : List ℕ) → IsLog entries letters places →
     IsLog (entries ++ entry ∷ []) (letters ++ numbers ∷ []) (places ++ map (place_at (length entries)) (range_with_len 0 (length (posts_of_call 0 0 entry.call))))
 IsLog-push entries letters places entry numbers log =
     record {
@@ -75,14 +75,14 @@ IsLog-push entries letters places entry numbers log =
     }
 
 -- the post with this number stands in this entry, at this place of its batch
-pub record StandsIn (entries : History) (number : ℕ) (place : Place) : Type 0 where
+pub record StandsIn (entries : History) (number : ℕ) (place : PostPlace) : Type 0 where
   pub entry : Entry
   pub post : Post
   pub at : slice_get entries place.entry ≡ Some entry
   pub in_batch : slice_get (posts_of_entry entry) place.pair ≡ Some post
   pub numbered : slice_get (posts_of entries) number ≡ Some post
 
-stands-there : (entries : History) (number : ℕ) (place : Place) (post : Post) → slice_get (posts_of entries) number ≡ Some post → post_in entries place ≡ Some post → StandsIn entries number place
+stands-there : (entries : History) (number : ℕ) (place : PostPlace) (post : Post) → slice_get (posts_of entries) number ≡ Some post → post_in entries place ≡ Some post → StandsIn entries number place
 stands-there entries number place post numbered there = through (slice_get entries place.entry) refl there
   where
     through : (found : Option Entry) → slice_get entries place.entry ≡ found → option_and_then (λ one. slice_get (posts_of_entry one) place.pair) found ≡ Some post → StandsIn entries number place
@@ -90,10 +90,10 @@ stands-there entries number place post numbered there = through (slice_get entri
     through (Some one) is there' = record { entry = one; post = post; at = is; in_batch = there'; numbered = numbered }
 
 -- the number of posts is that of the places
-pub length-places : (entries : History) (letters : List (List ℕ)) (places : List Place) → IsLog entries letters places → length places ≡ length (posts_of entries)
+pub length-places : (entries : History) (letters : List (List ℕ)) (places : List PostPlace) → IsLog entries letters places → length places ≡ length (posts_of entries)
 length-places entries letters places log = sym (length-map places (post_in entries)) ∙ ap length log.placed ∙ length-map (posts_of entries) (λ post. Some post)
 
-pub stands : (entries : History) (letters : List (List ℕ)) (places : List Place) (number : ℕ) (place : Place) → IsLog entries letters places → number < length (posts_of entries) →
+pub stands : (entries : History) (letters : List (List ℕ)) (places : List PostPlace) (number : ℕ) (place : PostPlace) → IsLog entries letters places → number < length (posts_of entries) →
     place ≡ get_or places number place → StandsIn entries number place
 stands entries letters places number place log below is =
     let same : length places ≡ length (posts_of entries) = length-places entries letters places log in
@@ -118,23 +118,23 @@ origin-of_call stamp client (Posts batch) place post there = in_batch (slice_get
     in_batch None e = absurd (let e' : None ≡ Some post = e in cc)
     in_batch (Some pair) e = let e' : post_of stamp client pair ≡ post = cc in ap origin_of (sym e')
 
-same-entry : (entries : History) (number : ℕ) (place : Place) (one : Entry) (there : StandsIn entries number place) → one ≡ get_or entries place.entry one → one ≡ there.entry
+same-entry : (entries : History) (number : ℕ) (place : PostPlace) (one : Entry) (there : StandsIn entries number place) → one ≡ get_or entries place.entry one → one ≡ there.entry
 same-entry entries number place one there is = is ∙ get_or_from_slice_get entries place.entry there.entry one there.at
 
 -- what is read there: the entry stands in the history, the place in its batch, and the post is that with the number
-pub stands-within : (entries : History) (number : ℕ) (place : Place) → StandsIn entries number place → place.entry < length entries
+pub stands-within : (entries : History) (number : ℕ) (place : PostPlace) → StandsIn entries number place → place.entry < length entries
 stands-within entries number place there = slice_get_within entries place.entry there.entry there.at
 
-pub stands-pair : (entries : History) (number : ℕ) (place : Place) (one : Entry) → StandsIn entries number place → one ≡ get_or entries place.entry one → place.pair < length (posts_of_entry one)
+pub stands-pair : (entries : History) (number : ℕ) (place : PostPlace) (one : Entry) → StandsIn entries number place → one ≡ get_or entries place.entry one → place.pair < length (posts_of_entry one)
 stands-pair entries number place one there is =
     slice_get_within (posts_of_entry one) place.pair there.post (ap (λ e. slice_get (posts_of_entry e) place.pair) (same-entry entries number place one there is) ∙ there.in_batch)
 
-pub stands-post : (entries : History) (number : ℕ) (place : Place) (one : Entry) → StandsIn entries number place → one ≡ get_or entries place.entry one →
+pub stands-post : (entries : History) (number : ℕ) (place : PostPlace) (one : Entry) → StandsIn entries number place → one ≡ get_or entries place.entry one →
     slice_get (posts_of entries) number ≡ slice_get (posts_of_entry one) place.pair
 stands-post entries number place one there is =
     there.numbered ∙ sym (ap (λ e. slice_get (posts_of_entry e) place.pair) (same-entry entries number place one there is) ∙ there.in_batch)
 
-pub stands-origin : (entries : History) (number : ℕ) (place : Place) (one : Entry) → StandsIn entries number place → one ≡ get_or entries place.entry one →
+pub stands-origin : (entries : History) (number : ℕ) (place : PostPlace) (one : Entry) → StandsIn entries number place → one ≡ get_or entries place.entry one →
     option_map origin_of (slice_get (posts_of entries) number) ≡ Some (record { stamp = one.stamp; client = one.client })
 stands-origin entries number place one there is =
     ap (option_map origin_of) there.numbered

@@ -12,8 +12,8 @@ use Rattle.moos_post.specs.History.{History}
 use Rattle.moos_mail.proofs.Lists.{found-below, length-push, slice_get-front}
 use Rattle.moos_db.specs.declared.db.Parts.{Parts}
 use Rattle.moos_db.specs.Clients.{ClientState, IsBlank}
-use Rattle.moos_db.specs.Hearers.{VariablesState}
-use Rattle.moos_db.specs.Places.{AreKept, IsDb, Journal}
+use Rattle.moos_db.specs.Subscriptions.{VariablesState}
+use Rattle.moos_db.specs.Places.{AreKept, IsDb, LogState}
 use Rattle.moos_db.proofs.AfterCalls.{AreKept-fetch, AreKept-mail, AreKept-room}
 use Rattle.moos_db.proofs.Standing.{slice_get-seam}
 
@@ -33,22 +33,22 @@ mail_at-seam names history entry =
     ∙ ap (mail_of_entry names history) (slice_get-seam history entry [])
 
 -- The same history, of which other parts are kept.
-pub IsDb-stays : (names : List (List ℕ)) (journal other : Journal) (variables more : VariablesState) (clients others : List ClientState) → other ≡ journal → AreKept names other.entries more others →
+pub IsDb-stays : (names : List (List ℕ)) (journal other : LogState) (variables more : VariablesState) (clients others : List ClientState) → other ≡ journal → AreKept names other.entries more others →
     IsDb names journal variables clients → IsDb names other more others
 IsDb-stays names journal other variables more clients others same kept db = record {
   kept = kept;
-  lettered = subst (λ (one : Journal). length one.letters ≡ length one.entries) (sym same) db.lettered;
-  given = subst (λ (one : Journal). (k : ℕ) → k < length one.entries → get_or one.letters k [] ≡ mail_at names one.entries k) (sym same) db.given;
+  lettered = subst (λ (one : LogState). length one.letters ≡ length one.entries) (sym same) db.lettered;
+  given = subst (λ (one : LogState). (k : ℕ) → k < length one.entries → get_or one.letters k [] ≡ mail_at names one.entries k) (sym same) db.given;
 }
 
 -- One entry more, with its letters.
-pub IsDb-push : (names : List (List ℕ)) (journal other : Journal) (variables more : VariablesState) (clients others : List ClientState) (entry : Entry) (numbers : List ℕ) →
+pub IsDb-push : (names : List (List ℕ)) (journal other : LogState) (variables more : VariablesState) (clients others : List ClientState) (entry : Entry) (numbers : List ℕ) →
     other ≡ record { entries = journal.entries ++ entry ∷ []; letters = journal.letters ++ numbers ∷ [] } → numbers ≡ mail_of_entry names journal.entries (Some entry) →
     AreKept names other.entries more others → IsDb names journal variables clients → IsDb names other more others
 IsDb-push names journal other variables more clients others entry numbers after mail kept db =
-    subst (λ (one : Journal). IsDb names one more others) (sym after)
+    subst (λ (one : LogState). IsDb names one more others) (sym after)
     (record {
-      kept = subst (λ (one : Journal). AreKept names one.entries more others) after kept;
+      kept = subst (λ (one : LogState). AreKept names one.entries more others) after kept;
       lettered = length-push journal.letters numbers ∙ ap suc db.lettered ∙ sym (length-push journal.entries entry);
       given = λ k below. elim (cases_lt k (length journal.entries)) [
         | inl before ↦
@@ -86,23 +86,23 @@ IsDb-new names clients few each blank = record {
 }
 
 -- The client fetched what waited for it.
-pub IsDb-fetch : (names : List (List ℕ)) (journal other : Journal) (variables : VariablesState) (clients : List ClientState) (stamp client : ℕ) (one new : ClientState) → slice_get clients client ≡ Some one →
+pub IsDb-fetch : (names : List (List ℕ)) (journal other : LogState) (variables : VariablesState) (clients : List ClientState) (stamp client : ℕ) (one new : ClientState) → slice_get clients client ≡ Some one →
     other ≡ record { entries = journal.entries ++ record { stamp = stamp; client = client; call = Fetch } ∷ []; letters = journal.letters ++ one.waits ∷ [] } → new ≡ record one { waits = []; spare = new.spare } →
     IsDb names journal variables clients → IsDb names other variables (set clients client new)
 IsDb-fetch names journal other variables clients stamp client one new there after given db =
     IsDb-push names journal other variables variables clients (set clients client new) (record { stamp = stamp; client = client; call = Fetch }) one.waits after
     (AreKept-mail names journal.entries client variables clients one there db.kept)
-    (subst (λ (log : Journal). AreKept names log.entries variables (set clients client new)) (sym after)
+    (subst (λ (log : LogState). AreKept names log.entries variables (set clients client new)) (sym after)
     (subst (λ state. AreKept names (journal.entries ++ record { stamp = stamp; client = client; call = Fetch } ∷ []) variables (set clients client state)) (sym given)
     (AreKept-fetch names journal.entries stamp client variables clients one new.spare there db.kept)))
     db
 
 -- It found no memory, and has the same but for room.
-pub IsDb-spare : (names : List (List ℕ)) (journal other : Journal) (variables : VariablesState) (clients : List ClientState) (client : ℕ) (one new : ClientState) → slice_get clients client ≡ Some one →
+pub IsDb-spare : (names : List (List ℕ)) (journal other : LogState) (variables : VariablesState) (clients : List ClientState) (client : ℕ) (one new : ClientState) → slice_get clients client ≡ Some one →
     other ≡ journal → new ≡ record one { spare = new.spare } → IsDb names journal variables clients → IsDb names other variables (set clients client new)
 IsDb-spare names journal other variables clients client one new there same given db =
     IsDb-stays names journal other variables variables clients (set clients client new) same
-    (subst (λ (log : Journal). AreKept names log.entries variables (set clients client new)) (sym same)
+    (subst (λ (log : LogState). AreKept names log.entries variables (set clients client new)) (sym same)
     (subst (λ state. AreKept names journal.entries variables (set clients client state)) (sym given)
     (AreKept-room names journal.entries client variables clients one (record one { spare = new.spare }) there refl db.kept)))
     db

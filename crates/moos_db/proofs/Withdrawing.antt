@@ -9,32 +9,32 @@ use Rattle.moos_post.specs.Delivery.{Inbox, Live, without_patterns}
 use Rattle.moos_post.specs.Patterns.{matches}
 use Rattle.moos_mail.proofs.Lists.{filter-all, filter-alike, filter-map, list_any-map, none-at}
 use Rattle.moos_db.specs.Clients.{ClientState, IsClient, has_registration, is_with_patterns, registration_of, without_registration}
-use Rattle.moos_db.specs.Hearers.{AreHeard, AreKeptAs, AreKnown, HearerState, IsHeardBy, HasKnown, VariableState, VariablesState, hearers_of, is_registration, of_client, with_lives}
+use Rattle.moos_db.specs.Subscriptions.{AreHeard, AreKeptAs, AreKnown, SubscriptionNow, IsHeardBy, HasKnown, VariableState, VariablesState, subscriptions_of, is_registration, of_client, with_lives}
 use Rattle.moos_db.specs.Registering.{AreStill, KeepsRoom, IsStill}
-use Rattle.moos_db.specs.Withdrawing.{AreWithdrawn, IsWithdrawn, without_hearer}
+use Rattle.moos_db.specs.Withdrawing.{AreWithdrawn, IsWithdrawn, without_subscription}
 use Rattle.moos_db.proofs.AfterRegistering.{each-set}
 use Rattle.moos_db.proofs.Changes.{all-same, AreClients-set, at-each, heard-changed}
-use Rattle.moos_db.proofs.Hearing.{hearers-unmatched, hearers-withdrawn, of_client-filter, others-stay}
+use Rattle.moos_db.proofs.Hearing.{subscriptions-unmatched, subscriptions-withdrawn, of_client-filter, others-stay}
 
-if-name : (b : Bool) (hearers : List HearerState) (variable : VariableState) → (if b then record variable { hearers = hearers } else variable).name ≡ variable.name
-if-name true hearers variable = refl
-if-name false hearers variable = refl
+if-name : (b : Bool) (subscriptions : List SubscriptionNow) (variable : VariableState) → (if b then record variable { subscriptions = subscriptions } else variable).name ≡ variable.name
+if-name true subscriptions variable = refl
+if-name false subscriptions variable = refl
 
-if-still : (b : Bool) (hearers : List HearerState) (room : ℕ) (variable : VariableState) →
-    record (if b then record variable { hearers = hearers } else variable) { room = room } ≡ record variable { hearers = (if b then record variable { hearers = hearers } else variable).hearers; room = room }
-if-still true hearers room variable = refl
-if-still false hearers room variable = refl
+if-still : (b : Bool) (subscriptions : List SubscriptionNow) (room : ℕ) (variable : VariableState) →
+    record (if b then record variable { subscriptions = subscriptions } else variable) { room = room } ≡ record variable { subscriptions = (if b then record variable { subscriptions = subscriptions } else variable).subscriptions; room = room }
+if-still true subscriptions room variable = refl
+if-still false subscriptions room variable = refl
 
 pub withdrawn-name : (client : ℕ) (var source : List ℕ) (one other : VariableState) → IsWithdrawn client var source one other → other.name ≡ one.name
 withdrawn-name client var source one other is =
-    ap (λ (v : VariableState). v.name) is.same ∙ if-name (matches var one.name) (filter (λ hearer. not (is_registration client var source hearer)) one.hearers) one
+    ap (λ (v : VariableState). v.name) is.same ∙ if-name (matches var one.name) (filter (λ subscription. not (is_registration client var source subscription)) one.subscriptions) one
 
 withdrawn-still : (client : ℕ) (var source : List ℕ) (one other : VariableState) → IsWithdrawn client var source one other → IsStill 0 one other
 withdrawn-still client var source one other is =
-    let same : other ≡ record one { hearers = (without_hearer client var source one).hearers; room = other.room }
-    = is.same ∙ if-still (matches var one.name) (filter (λ hearer. not (is_registration client var source hearer)) one.hearers) other.room one in
+    let same : other ≡ record one { subscriptions = (without_subscription client var source one).subscriptions; room = other.room }
+    = is.same ∙ if-still (matches var one.name) (filter (λ subscription. not (is_registration client var source subscription)) one.subscriptions) other.room one in
     record {
-      same = same ∙ ap (λ hearers. record one { hearers = hearers; room = other.room }) (sym (ap (λ (v : VariableState). v.hearers) same));
+      same = same ∙ ap (λ subscriptions. record one { subscriptions = subscriptions; room = other.room }) (sym (ap (λ (v : VariableState). v.subscriptions) same));
       room = let more : one.room ≤ other.room = is.room in omega arith;
     }
 
@@ -50,20 +50,20 @@ module _ (client : ℕ) (var source : List ℕ) (inboxes : ℕ → Inbox) where
   heard-withdrawn : (clients : ℕ) (one other : VariableState) → IsWithdrawn client var source one other → IsHeardBy clients inboxes one → IsHeardBy clients now other
   heard-withdrawn clients one other is heard = subst (IsHeardBy clients now) (sym is.same) (through (matches var one.name) refl)
     where
-      stays : HearerState → Bool
-      stays hearer = not (is_registration client var source hearer)
+      stays : SubscriptionNow → Bool
+      stays subscription = not (is_registration client var source subscription)
 
-      through : (b : Bool) → matches var one.name ≡ b → IsHeardBy clients now (record (if b then record one { hearers = filter stays one.hearers } else one) { room = other.room })
+      through : (b : Bool) → matches var one.name ≡ b → IsHeardBy clients now (record (if b then record one { subscriptions = filter stays one.subscriptions } else one) { room = other.room })
       through true matched = record {
-        each = λ number below. of_client-filter number stays one.hearers
-            ∙ at-each client left inboxes (λ n inbox. n < clients → filter stays (of_client n one.hearers) ≡ hearers_of n one.name inbox.lives)
-            (λ low. ap (filter stays) (heard.each client low) ∙ hearers-withdrawn client var source one.name (inboxes client).lives)
-            (λ n apart low. others-stay client n var source one.hearers (ne_eqb n client apart) ∙ heard.each n low) number below;
-        within = All-filter stays (λ (hearer : HearerState). hearer.client < clients) one.hearers heard.within;
+        each = λ number below. of_client-filter number stays one.subscriptions
+            ∙ at-each client left inboxes (λ n inbox. n < clients → filter stays (of_client n one.subscriptions) ≡ subscriptions_of n one.name inbox.lives)
+            (λ low. ap (filter stays) (heard.each client low) ∙ subscriptions-withdrawn client var source one.name (inboxes client).lives)
+            (λ n apart low. others-stay client n var source one.subscriptions (ne_eqb n client apart) ∙ heard.each n low) number below;
+        within = All-filter stays (λ (subscription : SubscriptionNow). subscription.client < clients) one.subscriptions heard.within;
       }
       through false none = record {
-        each = at-each client left inboxes (λ n inbox. n < clients → of_client n one.hearers ≡ hearers_of n one.name inbox.lives)
-            (λ low. heard.each client low ∙ sym (hearers-unmatched client var source one.name (inboxes client).lives none)) (λ n apart. heard.each n);
+        each = at-each client left inboxes (λ n inbox. n < clients → of_client n one.subscriptions ≡ subscriptions_of n one.name inbox.lives)
+            (λ low. heard.each client low ∙ sym (subscriptions-unmatched client var source one.name (inboxes client).lives none)) (λ n apart. heard.each n);
         within = heard.within;
       }
 

@@ -30,7 +30,7 @@ origin_of post = record { stamp = post.stamp; client = post.source }
 abbrev pub letter_of : ℕ → Post → Letter
 letter_of number post = record { number = number; post = post }
 
--- the letter with the post that has this number, where there is such a post
+-- the letter with the post that has this number, if there is such a post
 abbrev pub letter_at : List Post → ℕ → Option Letter
 letter_at posts number = option_map (letter_of number) (slice_get posts number)
 
@@ -46,7 +46,7 @@ letters_at posts numbers = flat_map (λ number. option_to_list (letter_at posts 
 abbrev pub letters_after : List (List ℕ) → ℕ → History → List Letter
 letters_after names client history = letters_at (posts_of history) (mail_after names client history)
 
--- Each entry of the history has its mail: the posts mailed to its client since the fetch before, where it is a fetch, and
+-- Each entry of the history has its mail: the posts mailed to its client since the fetch before, if it is a fetch, and
 -- nothing otherwise.
 pub record AreMails (names : List (List ℕ)) (history : History) (mails : List (List Letter)) : Type 0 where
   pub each : length mails ≡ length history

@@ -1,6 +1,6 @@
 pub mod Clients
 pub mod Database
-pub mod Hearers
+pub mod Subscriptions
 pub mod Places
 pub mod Registering
 pub mod Tables

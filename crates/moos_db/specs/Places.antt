@@ -5,26 +5,26 @@ use Rattle.moos_post.specs.declared.entry.Call.TheVariants.{Register, Unregister
 use Rattle.moos_post.specs.declared.value.Post.{Post}
 use Rattle.moos_post.specs.History.{History, posts_of, posts_of_entry}
 use Rattle.moos_post.specs.Delivery.{Inbox, inbox_of, mail_at}
-use Rattle.moos_db.specs.declared.log.Place.{Place}
+use Rattle.moos_db.specs.declared.log.PostPlace.{PostPlace}
 use Rattle.moos_db.specs.Clients.{ClientState}
-use Rattle.moos_db.specs.Hearers.{AreKeptAs, AreNoted, VariablesState}
+use Rattle.moos_db.specs.Subscriptions.{AreKeptAs, AreNoted, VariablesState}
 
 -- the entries, and what each of them gave
-pub record Journal : Type 0 where
+pub record LogState : Type 0 where
   pub entries : History
   pub letters : List (List ℕ)
 
--- the post that stands at this place of an entry's batch
-abbrev pub post_in : History → Place → Option Post
+-- the post that is at this place of an entry's batch
+abbrev pub post_in : History → PostPlace → Option Post
 post_in history place =
     option_and_then (λ entry. slice_get (posts_of_entry entry) place.pair) (slice_get history place.entry)
 
 -- this place of the batch of this entry
-abbrev pub place_at : ℕ → ℕ → Place
+abbrev pub place_at : ℕ → ℕ → PostPlace
 place_at entry pair = record { entry = entry; pair = pair }
 
--- each post of the history, by number, stands at the place that is kept for it, and there are letters for each entry
-pub record IsLog (entries : History) (letters : List (List ℕ)) (places : List Place) : Type 0 where
+-- each post of the history, by number, is at the place that is kept for it, and there are letters for each entry
+pub record IsLog (entries : History) (letters : List (List ℕ)) (places : List PostPlace) : Type 0 where
   pub each : length letters ≡ length entries
   pub placed : map (post_in entries) places ≡ map (λ post. Some post) (posts_of entries)
 
@@ -47,7 +47,7 @@ pub record AreKept (names : List (List ℕ)) (history : History) (variables : Va
   pub noted : AreNoted (map (λ post. post.var) (posts_of history)) variables
 
 -- all of that holds, and each entry's letters are its mail
-pub record IsDb (names : List (List ℕ)) (journal : Journal) (variables : VariablesState) (clients : List ClientState) : Type 0 where
+pub record IsDb (names : List (List ℕ)) (journal : LogState) (variables : VariablesState) (clients : List ClientState) : Type 0 where
   pub kept : AreKept names journal.entries variables clients
   pub lettered : length journal.letters ≡ length journal.entries
   pub given : (k : ℕ) → k < length journal.entries → slice_index_or journal.letters k [] ≡ mail_at names journal.entries k

@@ -7,24 +7,24 @@ use Rattle.moos_post.specs.Delivery.{Inbox, is_new_for, Live, was_mailed, with_c
 use Rattle.moos_post.specs.Patterns.{matches}
 use Rattle.moos_db.specs.declared.registration.Registration.{Registration}
 use Rattle.moos_db.specs.Clients.{ClientState}
-use Rattle.moos_db.specs.Hearers.{HearerState, IsNumbering, VariableState, VariablesState, caught_at, fresh_hearer, is_new_at}
+use Rattle.moos_db.specs.Subscriptions.{SubscriptionNow, IsNumbering, VariableState, VariablesState, caught_at, fresh_subscription, is_new_at}
 
 -- who is to hear a variable, with the variable's number
 abbrev pub Heard : Type 0
-Heard = ℕ × HearerState
+Heard = ℕ × SubscriptionNow
 
 -- a registration that is to be made, and who are to hear a variable through it
 pub record PreparedState : Type 0 where
   pub live : Registration
-  pub hearers : List Heard
+  pub subscriptions : List Heard
 
 -- the names of these variables
 abbrev pub variable_names : List VariableState → List (List ℕ)
 variable_names variables = map (λ variable. variable.name) variables
 
--- who is to hear the variable with this number and name through the registration, where it matches
+-- who is to hear the variable with this number and name through the registration, if it matches
 abbrev pub heard_where : ℕ → Registration → ℕ → List ℕ → List Heard
-heard_where client live number name = if matches live.reg.var name then (number, fresh_hearer client live) ∷ [] else []
+heard_where client live number name = if matches live.reg.var name then (number, fresh_subscription client live) ∷ [] else []
 
 -- through the registration the client is to hear each variable that it matches, of those with these names, the first of which has
 -- this number
@@ -35,10 +35,10 @@ heard_through client live number (name ∷ names) = heard_where client live numb
 -- the registration that is to be made for this at this entry
 abbrev pub prepared_of : ℕ → ℕ → List (List ℕ) → Reg → PreparedState
 prepared_of client made names reg =
-    record { live = record { reg = reg; made = made }; hearers = heard_through client (record { reg = reg; made = made }) 0 names }
+    record { live = record { reg = reg; made = made }; subscriptions = heard_through client (record { reg = reg; made = made }) 0 names }
 
 -- those of these that are to hear the variable with this number
-abbrev pub heard_at_number : ℕ → List Heard → List HearerState
+abbrev pub heard_at_number : ℕ → List Heard → List SubscriptionNow
 heard_at_number number all = map (λ one. one.1) (filter (λ one. one.0 == number) all)
 
 -- the live registrations after this one more, which withdraws one with the same patterns
@@ -55,14 +55,14 @@ latest_heard variables all = flat_map (λ one. option_to_list (latest_at variabl
 
 -- the same of the variables that are to be heard through each of these registrations
 abbrev pub latest_prepared : List VariableState → List PreparedState → List ℕ
-latest_prepared variables all = flat_map (λ one. latest_heard variables one.hearers) all
+latest_prepared variables all = flat_map (λ one. latest_heard variables one.subscriptions) all
 
--- each of these stands so to the one at its place before, where the number of the place counts
+-- each of these is so to the one at its place before, if the number of the place counts
 pub record AreEachAt {X : Type 0} (R : ℕ → X → X → Type 0) (before after : List X) : Type 0 where
   pub each : length after ≡ length before
   pub same : (number : ℕ) (one other : X) → slice_get before number ≡ Some one → slice_get after number ≡ Some other → R number one other
 
--- the same, where it doesn't
+-- the same, if it doesn't
 abbrev pub AreEach : {X : Type 0} → (X → X → Type 0) → List X → List X → Type 0
 AreEach R before after = AreEachAt (λ number. R) before after
 
@@ -73,7 +73,7 @@ HaveRoomFor all variables =
 
 -- the variable with this number after those of these that are to hear it do, for whom room was used
 pub record IsAddedTo (all : List Heard) (number : ℕ) (one other : VariableState) : Type 0 where
-  pub same : other ≡ record one { hearers = one.hearers ++ heard_at_number number all; room = other.room }
+  pub same : other ≡ record one { subscriptions = one.subscriptions ++ heard_at_number number all; room = other.room }
   pub room : one.room ≤ other.room + length (heard_at_number number all)
 
 -- the variable is the same but for room, of which there is no less
@@ -89,7 +89,7 @@ pub record AreRoomier (before after : VariablesState) : Type 0 where
 
 -- the variable is the same but for who hears it, and room was used for no more than so many
 pub record IsStill (used : ℕ) (one other : VariableState) : Type 0 where
-  pub same : other ≡ record one { hearers = other.hearers; room = other.room }
+  pub same : other ≡ record one { subscriptions = other.subscriptions; room = other.room }
   pub room : one.room ≤ other.room + used
 
 -- room for registrations of the client was used for no more than so many, and none for letters
@@ -110,20 +110,20 @@ HasRoomThrough room pattern variables =
 
 -- the registration of the client is prepared, and there is room for so many with each variable that it matches
 pub record IsPrepared (client more : ℕ) (variables : List VariableState) (one : PreparedState) : Type 0 where
-  pub hearers : one.hearers ≡ heard_through client one.live 0 (variable_names variables)
+  pub subscriptions : one.subscriptions ≡ heard_through client one.live 0 (variable_names variables)
   pub room : HasRoomThrough more one.live.reg.var variables
 
 -- so many entries were before, and the client's last fetch was one of them, if it fetched
 abbrev pub StandsAt : ℕ → Inbox → Type 0
 StandsAt made inbox = (inbox.entries ≡ made) × (inbox.fetched ≤ made)
 
--- after this post, which is the latest of its variable and has this number, caught up where it may
+-- after this post, which is the latest of its variable and has this number, caught up if it may
 abbrev pub catch_post : List (List ℕ) → ℕ → Inbox → Option Post → Inbox
 catch_post names number inbox None = inbox
 catch_post names number inbox (Some post) =
     if list_any (is_new_for names inbox.entries post) inbox.lives && not (was_mailed number inbox.mailed) then with_caught_up names inbox number post else inbox
 
--- after the post with this number, among these, caught up where it may
+-- after the post with this number, among these, caught up if it may
 abbrev pub catch_number : List (List ℕ) → List Post → Inbox → ℕ → Inbox
 catch_number names posts inbox number = catch_post names number inbox (slice_get posts number)
 
@@ -133,8 +133,8 @@ pub record IsCaught (client made stamp : ℕ) (source : List ℕ) (place : ℕ) 
   pub variable : VariableState
   pub numbering : IsNumbering before.all before.numbers
   pub there : slice_get before.all place ≡ Some variable
-  pub catches : answer ≡ list_any (is_new_at client made source) variable.hearers
+  pub catches : answer ≡ list_any (is_new_at client made source) variable.subscriptions
   pub room : ℕ
-  pub all : after.all ≡ slice_set before.all place (record variable { hearers = map (caught_at client made stamp source) variable.hearers; room = room })
+  pub all : after.all ≡ slice_set before.all place (record variable { subscriptions = map (caught_at client made stamp source) variable.subscriptions; room = room })
   pub numbers : after.numbers ≡ before.numbers
   pub noted : after.noted ≡ before.noted

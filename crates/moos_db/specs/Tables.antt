@@ -11,7 +11,7 @@ pub record Row : Type 0 where
 abbrev pub is_of : List ℕ → Row → Bool
 is_of var row = bytes_eq var row.var
 
--- the number of the variable, where it has one
+-- the number of the variable, if it has one
 abbrev pub number_of : List ℕ → List Row → Option ℕ
 number_of var rows = option_map (λ row. row.number) (find (is_of var) rows)
 

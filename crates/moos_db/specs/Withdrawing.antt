@@ -1,17 +1,17 @@
 -- What a withdrawal changes.
 use Rattle.std.specs.Prelude.{◌≡◌, ◌≤◌, ℕ, not, if◌then◌else◌, List, filter}
 use Rattle.moos_post.specs.Patterns.{matches}
-use Rattle.moos_db.specs.Hearers.{VariableState, VariablesState, is_registration}
+use Rattle.moos_db.specs.Subscriptions.{VariableState, VariablesState, is_registration}
 use Rattle.moos_db.specs.Registering.{AreEach}
 
 -- the variable once the client hears it no more through its registration with these patterns
-abbrev pub without_hearer : ℕ → List ℕ → List ℕ → VariableState → VariableState
-without_hearer client var source variable =
-    if matches var variable.name then record variable { hearers = filter (λ hearer. not (is_registration client var source hearer)) variable.hearers } else variable
+abbrev pub without_subscription : ℕ → List ℕ → List ℕ → VariableState → VariableState
+without_subscription client var source variable =
+    if matches var variable.name then record variable { subscriptions = filter (λ subscription. not (is_registration client var source subscription)) variable.subscriptions } else variable
 
 -- that changed, and there is no less room
 pub record IsWithdrawn (client : ℕ) (var source : List ℕ) (one other : VariableState) : Type 0 where
-  pub same : other ≡ record (without_hearer client var source one) { room = other.room }
+  pub same : other ≡ record (without_subscription client var source one) { room = other.room }
   pub room : one.room ≤ other.room
 
 -- for each variable

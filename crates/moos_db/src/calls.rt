@@ -2,7 +2,7 @@
 ghost use Rattle.std.specs.Prelude.{◌≡◌, ◌<◌, [], ◌∷◌, ◌++◌, length, map, All, IfOk, OnOk, OnErr, Some};
 ghost use Rattle.moos_post.specs.History.{posts_of};
 ghost use Rattle.moos_db.specs.Database.{letter_at, AreLetters};
-ghost use Rattle.moos_db.specs.Hearers.{AreNoted};
+ghost use Rattle.moos_db.specs.Subscriptions.{AreNoted};
 
 use crate::client::Client;
 use crate::log::Log;

@@ -16,7 +16,7 @@ use std::marker::Model;
 
 /// The database of a community's messages.
 ///
-/// Contracts see its clients' names by number and the history of the calls that it answered with Ok. Its parts stand behind a
+/// Contracts see its clients' names by number and the history of the calls that it answered with Ok. Its parts follow a
 /// pointer, since it is moved into a lock and out of it at each call.
 #[derive(Drop)]
 pub struct Db {
@@ -46,7 +46,7 @@ impl Model for Db {
 impl Db {
     ghost use Rattle.moos_db.specs.Database.{after_entry, pair_posted, origin_of, AreLetters};
 
-    /// A database of clients with these names, where nothing has happened yet. A client goes by its number, so nothing
+    /// A database of clients with these names, if nothing has happened yet. A client goes by its number, so nothing
     /// here rests on names that differ.
     pub fn make(alloc: Global, names: Names) -> Result<Db, NoMemory>
         requires { length names < 2 ^ 32 }
@@ -181,7 +181,7 @@ impl Db {
         Ok(mail)
     }
 
-    /// The client is given the same, and no letters are made of it: for one that doesn't read its mail, which stands in the
+    /// The client is given the same, and no letters are made of it: for one that doesn't read its mail, which is in the
     /// history by its numbers.
     pub fn fetch_unread(&mut self, alloc: Global, client: u32, stamp: u64) -> Result<(), NoMemory>
         requires { client < length self.old.names }
@@ -241,7 +241,7 @@ impl Db {
         self.parts.log.origin(j as usize)
     }
 
-    /// The numbers of the posts that the entry gave: a fetch its mail, and every other entry nothing. Nor is there any where
+    /// The numbers of the posts that the entry gave: a fetch its mail, and every other entry nothing. Nor is there any if
     /// there is no such entry.
     pub fn letters(&self, k: u64) -> &[u64]
         ensures { result.now ≡ mail_at self.now.names self.now.history k }

@@ -2,9 +2,9 @@
 //!
 //! Contracts see a `Db` as its clients' names and its history, the list of the calls that were answered with Ok. Each
 //! call adds its entry or finds no memory and changes nothing; what a fetch gives is the delivery rule's mail of the
-//! history before it, the rule that stands in `moos_post`'s specs/Delivery. Nothing else tells what mail a client gets.
+//! history before it, the rule that is in `moos_post`'s specs/Delivery. Nothing else tells what mail a client gets.
 //!
-//! Read `table` first, a number for each variable. Then `registration`, what a client registered for, `hearer`, a registration that hears
+//! Read `table` first, a number for each variable. Then `registration`, what a client registered for, `subscription`, a registration that hears
 //! a variable, `client`, what is kept of one client, and `variables`, who hears each variable; `log`, what is kept of the history;
 //! `posting`, `registering` and `calls`, what each call does, `mail`, what a fetch gives, `db`, `journal`, how a lock sees a `Db`, and
 //! last `run`, which makes a list of calls.
@@ -13,8 +13,6 @@
 mod calls;
 mod client;
 mod db;
-mod hearer;
-mod hearers;
 mod journal;
 mod log;
 mod mail;
@@ -22,6 +20,8 @@ mod posting;
 mod registering;
 mod registration;
 mod run;
+mod subscription;
+mod subscriptions;
 mod table;
 mod variables;
 

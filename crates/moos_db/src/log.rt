@@ -11,25 +11,25 @@ use moos_post::{Call, Entry, NoMemory, Pair};
 use std::alloc::Global;
 use std::marker::Model;
 
-// Where a post stands: the number of its entry, and its place in that entry's batch.
+// Where a post is: the number of its entry, and its place in that entry's batch.
 #[derive(Clone, Copy)]
-pub(crate) struct Place {
+pub(crate) struct PostPlace {
     pub entry: usize,
     pub pair: usize,
 }
 
-// The history: its entries in order, the numbers that each of them gave, and for each post where it stands.
+// The history: its entries in order, the numbers that each of them gave, and for each post where it is.
 #[derive(Drop)]
 pub(crate) struct Log {
     entries: Vec<Entry>,
     letters: Vec<Numbers>,
-    places: Vec<Place>,
+    places: Vec<PostPlace>,
 }
 
 impl Model for Log {
-    ghost use Rattle.moos_db.specs.Places.{Journal, IsLog};
+    ghost use Rattle.moos_db.specs.Places.{LogState, IsLog};
 
-    ghost Value = { Journal };
+    ghost Value = { LogState };
 
     ghost view = { λ log. record { entries = log.entries.items; letters = log.letters.items } };
 
@@ -58,12 +58,12 @@ fn pair_in(entry: &Entry, place: usize) -> &Pair
 }
 
 // Adds the places of an entry's posts, for which there is room.
-fn push_places(places: &mut Vec<Place>, entry: usize, posts: usize)
+fn push_places(places: &mut Vec<PostPlace>, entry: usize, posts: usize)
     requires { vec_len places.old + posts ≤ vec_capacity places.old }
     ensures { places.new.items ≡ places.old.items ++ map (place_at entry) (range_with_len 0 posts) }
 {
     for pair in 0..posts {
-        places.push_reserved(Place { entry, pair });
+        places.push_reserved(PostPlace { entry, pair });
     }
 }
 
@@ -71,7 +71,7 @@ fn push_places(places: &mut Vec<Place>, entry: usize, posts: usize)
 fn make_room(
     entries: &mut Vec<Entry>,
     letters: &mut Vec<Numbers>,
-    places: &mut Vec<Place>,
+    places: &mut Vec<PostPlace>,
     posts: usize,
 ) -> Result<(), NoMemory>
     ensures entries { entries.new.items ≡ entries.old.items }

@@ -3,7 +3,7 @@ ghost use Rattle.std.specs.Prelude.{◌≡◌, ◌<◌, ◌^◌, ◌∷◌, ◌+
 ghost use Rattle.moos_post.specs.declared.value.Post.{Post};
 ghost use Rattle.moos_post.specs.Delivery.{Inbox};
 ghost use Rattle.moos_post.specs.History.{name_of, posts_of, posts_of_entry};
-ghost use Rattle.moos_db.specs.Hearers.{HearBelow, AreNoted, AreReady, HaveLetterRoom};
+ghost use Rattle.moos_db.specs.Subscriptions.{HearBelow, AreNoted, AreReady, HaveLetterRoom};
 ghost use Rattle.moos_db.specs.Places.{AreKept, makes_posts};
 
 use crate::client::Client;

@@ -6,15 +6,15 @@ ghost use Rattle.moos_post.specs.declared.value.Post.{Post};
 ghost use Rattle.moos_post.specs.Delivery.{Inbox, without_patterns};
 ghost use Rattle.moos_post.specs.History.{posts_of};
 ghost use Rattle.moos_db.specs.Clients.{ClientState};
-ghost use Rattle.moos_db.specs.Hearers.{AreKeptAs, AreNoted, with_inbox, with_lives};
+ghost use Rattle.moos_db.specs.Subscriptions.{AreKeptAs, AreNoted, with_inbox, with_lives};
 ghost use Rattle.moos_db.specs.Places.{AreKept};
 ghost use Rattle.moos_db.specs.Registering.{AreRoomier, AreStill, HasRoomThrough, IsPrepared, catch_number, latest_heard, latest_prepared, variable_names, prepared_of, StandsAt, with_prepared};
 
 use crate::client::Client;
-use crate::hearer::Hearer;
 use crate::log::Log;
 use crate::posting::source_of;
 use crate::registration::Registration;
+use crate::subscription::Subscription;
 use crate::variables::Variables;
 use moos_post::{Call, Copied, Entry, Names, NoMemory, Pattern, Reg, Regs};
 use std::alloc::Global;
@@ -25,7 +25,7 @@ use std::sync::Arc;
 #[derive(Drop)]
 struct Prepared {
     live: Arc<Registration>,
-    hearers: Vec<(usize, Hearer)>,
+    subscriptions: Vec<(usize, Subscription)>,
 }
 
 impl Model for Prepared {
@@ -33,7 +33,7 @@ impl Model for Prepared {
 
     ghost Value = { PreparedState };
 
-    ghost view = { λ one. record { live = one.live.value; hearers = one.hearers.items } };
+    ghost view = { λ one. record { live = one.live.value; subscriptions = one.subscriptions.items } };
 }
 
 // Takes all memory for this registration of the client, which this entry is to make, and leaves room for so many with each variable.
@@ -51,8 +51,11 @@ fn prepare(
 {
     let reg = reg.copy(alloc)?;
     let live = Arc::new(alloc, Registration { reg, made })?;
-    let hearers = variables.hearers_through(alloc, client, &live, room)?;
-    Ok(Prepared { live, hearers })
+    let subscriptions = variables.subscriptions_through(alloc, client, &live, room)?;
+    Ok(Prepared {
+        live,
+        subscriptions,
+    })
 }
 
 // Takes all memory for these registrations of the client, which this entry is to make.
@@ -79,11 +82,11 @@ fn prepare_all(
 fn add_latest(
     numbers: &mut Vec<u64>,
     variables: &Variables,
-    hearers: &[(usize, Hearer)],
+    subscriptions: &[(usize, Subscription)],
 ) -> Result<(), NoMemory>
-    ensures { OnOk result (numbers.new.items ≡ numbers.old.items ++ latest_heard variables.now.all hearers.now) }
+    ensures { OnOk result (numbers.new.items ≡ numbers.old.items ++ latest_heard variables.now.all subscriptions.now) }
 {
-    for (variable, _) in hearers {
+    for (variable, _) in subscriptions {
         if let Some(number) = variables.latest(*variable) {
             numbers.push(number)?;
         }
@@ -101,7 +104,7 @@ fn all_latest(
 {
     let mut numbers = Vec::new(alloc);
     for one in prepared {
-        add_latest(&mut numbers, variables, one.hearers.as_slice())?;
+        add_latest(&mut numbers, variables, one.subscriptions.as_slice())?;
     }
     Ok(numbers)
 }
@@ -163,9 +166,12 @@ fn make(variables: &mut Variables, clients: &mut Vec<Client>, client: u32, one: 
     ensures still { AreStill 1 variables.old variables.new clients.old.items clients.new.items }
     ensures noted { variables.new.noted ≡ variables.old.noted }
 {
-    let Prepared { live, hearers } = one;
+    let Prepared {
+        live,
+        subscriptions,
+    } = one;
     withdraw(variables, clients, client, &live.reg.var, &live.reg.source);
-    variables.add_hearers(hearers);
+    variables.add_subscriptions(subscriptions);
     clients[client as usize].add(live);
 }
 
@@ -184,7 +190,7 @@ fn make_all(variables: &mut Variables, clients: &mut Vec<Client>, client: u32, a
     }
 }
 
-// The post with this number, which is the latest of its variable, catches up where it may: where the client made a registration at this
+// The post with this number, which is the latest of its variable, catches up if it may: if the client made a registration at this
 // entry that selects it, and it was never mailed to the client.
 fn catch_one(
     names: &Names,
@@ -215,7 +221,7 @@ fn catch_one(
     }
 }
 
-// The latest posts with these numbers catch up where they may, one after the other.
+// The latest posts with these numbers catch up if they may, one after the other.
 fn catch_up(
     names: &Names,
     log: &Log,

@@ -33,7 +33,7 @@ impl Table {
         }
     }
 
-    // The number of the variable, where it has one.
+    // The number of the variable, if it has one.
     pub fn number_of(&self, var: &Name) -> Option<u64>
         ensures { result ≡ number_of var.now self.now }
     {

@@ -4,16 +4,16 @@ ghost use Rattle.std.specs.List.{All, list_any};
 ghost use Rattle.moos_post.specs.Delivery.{Inbox};
 ghost use Rattle.moos_post.specs.Patterns.{matches};
 ghost use Rattle.moos_mail.specs.Mailboxes.{is_one_of};
-ghost use Rattle.moos_db.specs.Hearers.{AreAlike, HearBelow, AreNoted, AreReady, caught_at, HaveLetterRoom, IsAdded, is_new_at, IsNumbering, IsPosted, MayAdd, name_at};
+ghost use Rattle.moos_db.specs.Subscriptions.{AreAlike, HearBelow, AreNoted, AreReady, caught_at, HaveLetterRoom, IsAdded, is_new_at, IsNumbering, IsPosted, MayAdd, name_at};
 ghost use Rattle.moos_db.specs.Registering.{AreEach, AreEachAt, AreRoomier, HasRoomThrough, HaveRoomFor, heard_where, heard_through, IsAddedTo, IsCaught, IsRoomier, latest_at, variable_names};
 ghost use Rattle.moos_db.specs.Tables.{number_of};
 ghost use Rattle.moos_post.specs.declared.value.Post.{Post};
 ghost use Rattle.moos_db.specs.Withdrawing.{AreWithdrawn, IsWithdrawn};
 
 use crate::client::Client;
-use crate::hearer::Hearer;
-use crate::hearers::{catch_all, first_hearers, mail_to};
 use crate::registration::Registration;
+use crate::subscription::Subscription;
+use crate::subscriptions::{catch_all, first_subscriptions, mail_to};
 use crate::table::Table;
 use moos_post::{Copied, Name, NoMemory, Pattern};
 use moos_reg::matches;
@@ -21,13 +21,13 @@ use std::alloc::Global;
 use std::marker::Model;
 use std::sync::Arc;
 
-// A variable, the number of its latest post, where there is one, and who hears it: of each client the live registrations that match
+// A variable, the number of its latest post, if there is one, and who hears it: of each client the live registrations that match
 // it, in their order.
 #[derive(Drop)]
 pub(crate) struct Variable {
     name: Name,
     latest: Option<u64>,
-    hearers: Vec<Hearer>,
+    subscriptions: Vec<Subscription>,
 }
 
 // The variables that were posted, each under its number, from 0 in the order of their first posts, and of each post the number of
@@ -43,20 +43,20 @@ pub(crate) struct Variables {
 
 impl Model for Variable {
     ghost use Rattle.std.specs.Prelude.{◌-◌, vec_capacity, vec_len};
-    ghost use Rattle.moos_db.specs.Hearers.{VariableState};
+    ghost use Rattle.moos_db.specs.Subscriptions.{VariableState};
 
     ghost Value = { VariableState };
 
     ghost view = { λ variable. record {
       name = variable.name;
       latest = variable.latest;
-      hearers = variable.hearers.items;
-      room = vec_capacity variable.hearers - vec_len variable.hearers;
+      subscriptions = variable.subscriptions.items;
+      room = vec_capacity variable.subscriptions - vec_len variable.subscriptions;
     } };
 }
 
 impl Model for Variables {
-    ghost use Rattle.moos_db.specs.Hearers.{AreNumbers, VariablesState};
+    ghost use Rattle.moos_db.specs.Subscriptions.{AreNumbers, VariablesState};
 
     ghost Value = { VariablesState };
 
@@ -71,38 +71,38 @@ impl Variable {
         ensures roomier { IsRoomier self.old self.new }
         ensures room { OnOk result (more ≤ self.new.room) }
     {
-        self.hearers.reserve(more)?;
+        self.subscriptions.reserve(more)?;
         Ok(())
     }
 
-    // Through the registration the client is to hear the variable, which has this number, where that matches it. There is room for so
+    // Through the registration the client is to hear the variable, which has this number, if that matches it. There is room for so
     // many of the client then.
     fn hear_through(
         &mut self,
-        hearers: &mut Vec<(usize, Hearer)>,
+        subscriptions: &mut Vec<(usize, Subscription)>,
         number: usize,
         client: u32,
         live: &Arc<Registration>,
         room: usize,
     ) -> Result<(), NoMemory>
-        ensures heard { OnOk result (hearers.new.items ≡ hearers.old.items ++ heard_where client live.now.value number self.old.name) }
+        ensures heard { OnOk result (subscriptions.new.items ≡ subscriptions.old.items ++ heard_where client live.now.value number self.old.name) }
         ensures roomier { IsRoomier self.old self.new }
         ensures room { OnOk result (matches live.now.value.reg.var self.old.name ≡ true → room ≤ self.new.room) }
     {
         if live.hears(&self.name) {
             self.reserve(room)?;
-            hearers.push((number, Hearer::new(client, live.clone()?)))?;
+            subscriptions.push((number, Subscription::new(client, live.clone()?)))?;
         }
         Ok(())
     }
 
     // One more hears it, for whom there is room.
-    fn add(&mut self, hearer: Hearer)
+    fn add(&mut self, subscription: Subscription)
         requires { 0 < self.old.room }
-        ensures same { self.new ≡ record self.old { hearers = self.old.hearers ++ hearer ∷ []; room = self.new.room } }
+        ensures same { self.new ≡ record self.old { subscriptions = self.old.subscriptions ++ subscription ∷ []; room = self.new.room } }
         ensures room { self.old.room ≤ self.new.room + 1 }
     {
-        self.hearers.push_reserved(hearer);
+        self.subscriptions.push_reserved(subscription);
     }
 
     // The client hears it no more through its registration with these patterns.
@@ -110,49 +110,50 @@ impl Variable {
         ensures { IsWithdrawn client var.now source.now self.old self.new }
     {
         if matches(var, self.name.bytes()) {
-            self.hearers
-                .retain(|hearer| !hearer.is_registration(client, var, source));
+            self.subscriptions.retain(|subscription| !subscription.is_registration(
+                client, var, source,
+            ));
         }
     }
 
     // A post of it that catches up comes through the registrations that the client made at this entry and that select it. Tells
     // whether there is one.
     fn catch_up(&mut self, client: u32, made: u64, stamp: u64, source: &[u8]) -> bool
-        ensures catches { result ≡ list_any (is_new_at client made source.now) self.old.hearers }
-        ensures same { self.new ≡ record self.old { hearers = map (caught_at client made stamp source.now) self.old.hearers; room = self.new.room } }
+        ensures catches { result ≡ list_any (is_new_at client made source.now) self.old.subscriptions }
+        ensures same { self.new ≡ record self.old { subscriptions = map (caught_at client made stamp source.now) self.old.subscriptions; room = self.new.room } }
     {
-        catch_all(&mut self.hearers, client, made, stamp, source)
+        catch_all(&mut self.subscriptions, client, made, stamp, source)
     }
 }
 
 // Through the registration the client is to hear each of these variables that it matches: that variable's number, and who hears it.
 // There is room for so many of the client there.
-fn hearers_among(
+fn subscriptions_among(
     alloc: Global,
     all: &mut Vec<Variable>,
     client: u32,
     live: &Arc<Registration>,
     room: usize,
-) -> Result<Vec<(usize, Hearer)>, NoMemory>
-    ensures through { IfOk result (λ hearers. hearers.items ≡ heard_through client live.now.value 0 (variable_names all.old.items)) }
+) -> Result<Vec<(usize, Subscription)>, NoMemory>
+    ensures through { IfOk result (λ subscriptions. subscriptions.items ≡ heard_through client live.now.value 0 (variable_names all.old.items)) }
     ensures roomier { AreEach IsRoomier all.old.items all.new.items }
     ensures room { OnOk result (HasRoomThrough room live.now.value.reg.var all.new.items) }
 {
-    let mut hearers = Vec::new(alloc);
+    let mut subscriptions = Vec::new(alloc);
     for number in 0..all.len() {
-        all[number].hear_through(&mut hearers, number, client, live, room)?;
+        all[number].hear_through(&mut subscriptions, number, client, live, room)?;
     }
-    Ok(hearers)
+    Ok(subscriptions)
 }
 
 // These hear from now on, each the one of the variables with its number. There is room for them.
-fn add_among(all: &mut Vec<Variable>, hearers: Vec<(usize, Hearer)>)
-    requires within { All (λ one. one.0 < length all.old.items) hearers.items }
-    requires room { HaveRoomFor hearers.items all.old.items }
-    ensures { AreEachAt (IsAddedTo hearers.items) all.old.items all.new.items }
+fn add_among(all: &mut Vec<Variable>, subscriptions: Vec<(usize, Subscription)>)
+    requires within { All (λ one. one.0 < length all.old.items) subscriptions.items }
+    requires room { HaveRoomFor subscriptions.items all.old.items }
+    ensures { AreEachAt (IsAddedTo subscriptions.items) all.old.items all.new.items }
 {
-    for (number, hearer) in hearers {
-        all[number].add(hearer);
+    for (number, subscription) in subscriptions {
+        all[number].add(subscription);
     }
 }
 
@@ -186,19 +187,19 @@ impl Variables {
         ensures same { OnErr result (self.new ≡ self.old) }
     {
         let number = self.all.len();
-        let hearers = first_hearers(alloc, clients, var)?;
+        let subscriptions = first_subscriptions(alloc, clients, var)?;
         let name = var.copy(alloc)?;
         self.all.reserve(1)?;
         self.numbers.set(alloc, var, number as u64)?;
         self.all.push_reserved(Variable {
             name,
             latest: None,
-            hearers,
+            subscriptions,
         });
         Ok(number)
     }
 
-    // The number of the variable, which gets one where it has none.
+    // The number of the variable, which gets one if it has none.
     fn number_for(
         &mut self,
         alloc: Global,
@@ -247,8 +248,8 @@ impl Variables {
         ensures room { OnOk result (HaveLetterRoom clients.new.items self.now from more) }
     {
         for post in from..self.noted.len() {
-            for hearer in self.all[self.noted[post]].hearers.as_slice() {
-                clients[hearer.client() as usize].make_room(more)?;
+            for subscription in self.all[self.noted[post]].subscriptions.as_slice() {
+                clients[subscription.client() as usize].make_room(more)?;
             }
         }
         Ok(())
@@ -265,34 +266,40 @@ impl Variables {
     {
         let variable = &mut self.all[self.noted[number]];
         variable.latest = Some(number as u64);
-        mail_to(&mut variable.hearers, clients, number as u64, stamp, source);
+        mail_to(
+            &mut variable.subscriptions,
+            clients,
+            number as u64,
+            stamp,
+            source,
+        );
     }
 
     // Through the registration the client is to hear each variable that it matches: that variable's number, and who hears it. There is
     // room for so many of the client there.
-    pub fn hearers_through(
+    pub fn subscriptions_through(
         &mut self,
         alloc: Global,
         client: u32,
         live: &Arc<Registration>,
         room: usize,
-    ) -> Result<Vec<(usize, Hearer)>, NoMemory>
-        ensures through { IfOk result (λ hearers. hearers.items ≡ heard_through client live.now.value 0 (variable_names self.old.all)) }
+    ) -> Result<Vec<(usize, Subscription)>, NoMemory>
+        ensures through { IfOk result (λ subscriptions. subscriptions.items ≡ heard_through client live.now.value 0 (variable_names self.old.all)) }
         ensures roomier { AreRoomier self.old self.new }
         ensures room { OnOk result (HasRoomThrough room live.now.value.reg.var self.new.all) }
     {
-        hearers_among(alloc, &mut self.all, client, live, room)
+        subscriptions_among(alloc, &mut self.all, client, live, room)
     }
 
     // These hear from now on, each the variable with its number. There is room for them.
-    pub fn add_hearers(&mut self, hearers: Vec<(usize, Hearer)>)
-        requires within { All (λ one. one.0 < length self.old.all) hearers.items }
-        requires room { HaveRoomFor hearers.items self.old.all }
-        ensures added { AreEachAt (IsAddedTo hearers.items) self.old.all self.new.all }
+    pub fn add_subscriptions(&mut self, subscriptions: Vec<(usize, Subscription)>)
+        requires within { All (λ one. one.0 < length self.old.all) subscriptions.items }
+        requires room { HaveRoomFor subscriptions.items self.old.all }
+        ensures added { AreEachAt (IsAddedTo subscriptions.items) self.old.all self.new.all }
         ensures numbers { self.new.numbers ≡ self.old.numbers }
         ensures noted { self.new.noted ≡ self.old.noted }
     {
-        add_among(&mut self.all, hearers);
+        add_among(&mut self.all, subscriptions);
     }
 
     // The client hears no more through its registration with these patterns.
@@ -302,7 +309,7 @@ impl Variables {
         withdraw_from_all(&mut self.all, client, var, source);
     }
 
-    // The number of the latest post of the variable with this number, where there is one.
+    // The number of the latest post of the variable with this number, if there is one.
     pub fn latest(&self, number: usize) -> Option<u64>
         ensures { result ≡ latest_at self.now.all number }
     {

@@ -16,8 +16,8 @@ use Rattle.helm_core.specs.Ticks.{Tick}
 use Rattle.helm_core.specs.WellFormed.{IsWellFormedPlan}
 use Rattle.helm_files.proofs.Communities.{all_named, AreGoodFiles, clients_with, names_apart, steered, tick_early}
 use Rattle.helm_files.specs.declared.loading.HelmFiles.{HelmFiles}
-use Rattle.helm_files.specs.HelmFiles.{steering_by}
-use Rattle.moos_play.specs.Lawful.{heard_of, helm_number, names_with, opening, opening_of, Steering, tick_entries, ticks, ticks_of, ticks_to}
+use Rattle.helm_files.specs.HelmFiles.{helm_setup_by}
+use Rattle.moos_play.specs.Lawful.{heard_of, helm_number, names_with, opening, opening_of, HelmSetup, tick_entries, ticks, ticks_of, ticks_to}
 use Rattle.moos_report.proofs.Communities.{all_entries, IsBy, own_lines, own_names}
 use Rattle.moos_report.specs.Community.{IsCommunity}
 use Rattle.moos_jobs.specs.Jobs.{IsLawfulWith}
@@ -29,7 +29,7 @@ use Rattle.script_reader.specs.Validity.{IsValid}
 made_by : (client stamp : ℕ) (call : Call) → stamp < 2 ^ 64 → IsCall call → IsBy (suc client) (entry_of client stamp call)
 made_by client stamp call early is = (record { stamp = early; call = is }, omega arith)
 
-opening_by : (helm : Steering) → IsWellFormedPlan helm.plan → All (IsBy (suc helm.client)) (opening_of helm)
+opening_by : (helm : HelmSetup) → IsWellFormedPlan helm.plan → All (IsBy (suc helm.client)) (opening_of helm)
 opening_by helm formed =
     All-cons (IsBy (suc helm.client)) _ _ (made_by helm.client 0 (Register (wants_of helm.plan)) (omega arith) formed.wants) (posted (nat_lt 0 (length helm.plan.opening)))
   where
@@ -37,7 +37,7 @@ opening_by helm formed =
     posted true = All-cons (IsBy (suc helm.client)) _ [] (made_by helm.client 0 (Posts helm.plan.opening) (omega arith) formed.opening) (All-nil (IsBy (suc helm.client)))
     posted false = All-nil (IsBy (suc helm.client))
 
-ticks_by : (helm : Steering) (heard : List Tick) (n : ℕ) → IsWellFormedPlan helm.plan → ((i : ℕ) → i < n → i * helm.period < 2 ^ 64) → All (IsBy (suc helm.client)) (ticks_of helm heard n)
+ticks_by : (helm : HelmSetup) (heard : List Tick) (n : ℕ) → IsWellFormedPlan helm.plan → ((i : ℕ) → i < n → i * helm.period < 2 ^ 64) → All (IsBy (suc helm.client)) (ticks_of helm heard n)
 ticks_by helm heard zero formed early = All-nil (IsBy (suc helm.client))
 ticks_by helm heard (suc i) formed early =
     let By : Entry → Type 0 = IsBy (suc helm.client) in
@@ -51,13 +51,13 @@ ticks_by helm heard (suc i) formed early =
 helm_opens : (script : Script) (helm : Option HelmFiles) → IfSome helm AreGoodFiles → All (IsBy (length (names_with script helm))) (opening (steered script helm))
 helm_opens script None files = All-nil (IsBy (length script.names))
 helm_opens script (Some helm) files =
-    subst (λ n. All (IsBy n) (opening_of (steering_by script helm))) (sym (clients_with script)) (opening_by (steering_by script helm) files.formed)
+    subst (λ n. All (IsBy n) (opening_of (helm_setup_by script helm))) (sym (clients_with script)) (opening_by (helm_setup_by script helm) files.formed)
 
 helm_ticks : (script : Script) (helm : Option HelmFiles) (heard : List Tick) → IsValid script → IfSome helm AreGoodFiles → All (IsBy (length (names_with script helm))) (ticks (steered script helm) script.stop heard)
 helm_ticks script None heard valid files = All-nil (IsBy (length script.names))
 helm_ticks script (Some helm) heard valid files =
-    subst (λ n. All (IsBy n) (ticks_of (steering_by script helm) heard (ticks_to script.stop (steering_by script helm)))) (sym (clients_with script))
-    (ticks_by (steering_by script helm) heard _ files.formed (λ i within. tick_early script.stop helm.mission.period i valid.early within))
+    subst (λ n. All (IsBy n) (ticks_of (helm_setup_by script helm) heard (ticks_to script.stop (helm_setup_by script helm)))) (sym (clients_with script))
+    (ticks_by (helm_setup_by script helm) heard _ files.formed (λ i within. tick_early script.stop helm.mission.period i valid.early within))
 
 more_names : (script : Script) (helm : Option HelmFiles) → length script.names ≤ length (names_with script helm)
 more_names script None = omega arith

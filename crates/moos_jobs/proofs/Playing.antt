@@ -5,14 +5,14 @@ use Rattle.moos_post.specs.History.{History}
 use Rattle.helm_core.specs.Plans.{plan_made}
 use Rattle.helm_core.specs.Ticks.{Tick}
 use Rattle.helm_core.specs.Worths.{DecidesByWorth}
-use Rattle.moos_play.specs.Lawful.{IsLawful, heard_of, helm_number, iterations, names_with, Steering}
+use Rattle.moos_play.specs.Lawful.{IsLawful, heard_of, helm_number, iterations, names_with, HelmSetup}
 use Rattle.moos_report.specs.declared.setup.Setup.{Setup}
 use Rattle.moos_report.specs.Report.{report_text, ReportsTell}
 use Rattle.command_line.specs.Turns.{Ready}
 use Rattle.moos_jobs.specs.Jobs.{IsLawfulWith, IsReport, report_on, outcomes}
 use Rattle.helm_files.proofs.Communities.{AreGoodFiles, stand_on_lines}
 use Rattle.helm_files.specs.declared.loading.HelmFiles.{HelmFiles}
-use Rattle.helm_files.specs.HelmFiles.{setup_of, steering_by}
+use Rattle.helm_files.specs.HelmFiles.{setup_of, helm_setup_by}
 use Rattle.moos_jobs.specs.Jobs.Task.{Playing}
 use Rattle.command_line.specs.declared.status.Status.{Status}
 use Rattle.command_line.specs.Endings.{Ended, Sinking}
@@ -50,19 +50,19 @@ reported_as order script helm text history tell valid files lawful printed = rec
 }
 
 -- what was told of a run, with a helm of these files or without one, is what its job may write
-module _ (order : Order) (script : Script) (files : Option HelmFiles) (helm : Option Steering) (setup : Setup) (tell : ReportsTell) (valid : IsValid script) (good : IfSome files AreGoodFiles)
-    (steered : helm ≡ option_map (steering_by script) files) (told : setup ≡ setup_of files) where
+module _ (order : Order) (script : Script) (files : Option HelmFiles) (helm : Option HelmSetup) (setup : Setup) (tell : ReportsTell) (valid : IsValid script) (good : IfSome files AreGoodFiles)
+    (steered : helm ≡ option_map (helm_setup_by script) files) (told : setup ≡ setup_of files) where
   output_as : (text : List ℕ) → IsOfLawful order script helm setup text → IsReport order script files text
   output_as text is = of (subst (λ helm. IsOfLawful order script helm setup text) steered is)
     where
-      names : (files : Option HelmFiles) → names_with script (option_map (steering_by script) files) ≡ names_with script files
+      names : (files : Option HelmFiles) → names_with script (option_map (helm_setup_by script) files) ≡ names_with script files
       names None = refl
       names (Some files) = refl
 
-      of : IsOfLawful order script (option_map (steering_by script) files) setup text → IsReport order script files text
+      of : IsOfLawful order script (option_map (helm_setup_by script) files) setup text → IsReport order script files text
       of is = reported_as order script files text is.history tell valid good
-          (subst (λ names. IsLawful order script (option_map (steering_by script) files) names is.history) (names files) is.lawful)
-          (is.printed ∙ (λ i. report_text (told i) (names files i) is.history (iterations (option_map (steering_by script) files) script.stop (heard_of (names files i) (helm_number script) is.history))))
+          (subst (λ names. IsLawful order script (option_map (helm_setup_by script) files) names is.history) (names files) is.lawful)
+          (is.printed ∙ (λ i. report_text (told i) (names files i) is.history (iterations (option_map (helm_setup_by script) files) script.stop (heard_of (names files i) (helm_number script) is.history))))
 
   pub told_ended : (sink : Sinking) (status : Status) → Tells (IsOfLawful order script helm setup) sink status → Ended outcomes (Ready (Playing order script files)) sink status
   told_ended sink status tells = ends_told outcomes (Playing order script files) tt (IsOfLawful order script helm setup) output_as sink status tells

@@ -6,7 +6,7 @@ use Rattle.helm_core.specs.Plans.{wants_of}
 use Rattle.moos_client.specs.Calls.{entry_of}
 use Rattle.moos_post.specs.declared.entry.Call.TheVariants.{Register, Post as Posts}
 use Rattle.moos_post.specs.History.{History}
-use Rattle.moos_play.specs.Lawful.{heard_of, helm_number, IsLawful, iterations, names_with, opening, Steering}
+use Rattle.moos_play.specs.Lawful.{heard_of, helm_number, IsLawful, iterations, names_with, opening, HelmSetup}
 use Rattle.moos_play.specs.Plays.{clients_in, GoesOnWith, helm_in, history_in, iterations_made, Playing, script_played}
 use Rattle.moos_report.specs.declared.setup.Setup.{Setup}
 use Rattle.moos_report.specs.IterationLines.{helm_fetches, is_helm}
@@ -36,7 +36,7 @@ named_alone play alone valid =
     (named_beside (script_played play) (helm_in play) [] valid no_helm (λ none. refl))
 
 -- the report of a lawful history under these names
-pub of_lawful : (order : Order) (script : Script) (helm : Option Steering) (setup : Setup) (names : List (List ℕ)) (history : History) (made : List Iteration) → names ≡ names_with script helm
+pub of_lawful : (order : Order) (script : Script) (helm : Option HelmSetup) (setup : Setup) (names : List (List ℕ)) (history : History) (made : List Iteration) → names ≡ names_with script helm
     → IsLawful order script helm names history → made ≡ iterations helm script.stop (heard_of names (helm_number script) history) → IsOfLawful order script helm setup (report_text setup names history made)
 of_lawful order script helm setup names history made named lawful is = record {
   history = history;
@@ -45,7 +45,7 @@ of_lawful order script helm setup names history made named lawful is = record {
 }
 
 -- what holds of one run holds of another by the same order, script and helm
-pub run_as : (P : Order → Script → Option Steering → Type 0) {order order' : Order} {script script' : Script} {helm helm' : Option Steering} → order ≡ order' → script ≡ script' → helm ≡ helm'
+pub run_as : (P : Order → Script → Option HelmSetup → Type 0) {order order' : Order} {script script' : Script} {helm helm' : Option HelmSetup} → order ≡ order' → script ≡ script' → helm ≡ helm'
     → P order script helm → P order' script' helm'
 run_as P {order = order} {order' = order'} {script = script} {script' = script'} {helm = helm} {helm' = helm'} one two three so =
     subst (λ helm. P order' script' helm) three (subst (λ script. P order' script helm) two (subst (λ order. P order script helm) one so))
@@ -59,7 +59,7 @@ none_made play well alone begun =
     none [] many = refl
     none (one ∷ made) many = absurd (omega (arith, many))
 
-    deaf : (helm : Option Steering) → helm_fetches (clients_in play) (opening helm) ≡ 0
+    deaf : (helm : Option HelmSetup) → helm_fetches (clients_in play) (opening helm) ≡ 0
     deaf None = refl
     deaf (Some helm) = by (nat_lt 0 (length helm.plan.opening))
       where
@@ -68,6 +68,6 @@ none_made play well alone begun =
         by false = refl
 
 -- the names with a helm are the same, whatever is known of it
-pub named_with : {A : Type 0} (script : Script) (steering : A → Steering) (helm : Option A) → names_with script helm ≡ names_with script (option_map steering helm)
+pub named_with : {A : Type 0} (script : Script) (steering : A → HelmSetup) (helm : Option A) → names_with script helm ≡ names_with script (option_map steering helm)
 named_with script steering None = refl
 named_with script steering (Some helm) = refl

@@ -2,7 +2,7 @@
 use Rattle.std.specs.Prelude.{◌≡◌, ℕ, List, [], ◌∷◌, codes, Option, Some, None, option_map, IfSome, Ok}
 use Rattle.ivp_cert.specs.Certificates.{best_decision}
 use Rattle.helm_files.specs.declared.loading.HelmFiles.{HelmFiles}
-use Rattle.helm_files.specs.HelmFiles.{setup_of, steering_by}
+use Rattle.helm_files.specs.HelmFiles.{setup_of, helm_setup_by}
 use Rattle.helm_files.specs.Loading.{helm_turn}
 use Rattle.helm_core.specs.Plans.{plan_made}
 use Rattle.helm_core.specs.Worths.{DecidesByWorth}
@@ -53,7 +53,7 @@ abbrev pub script_turn : Order → Script → Option (List ℕ) → List (List �
 script_turn order script None files = Ready (Playing order script None)
 script_turn order script (Some name) files = helm_turn (helm_played order script) script name files
 
--- Where a job stands, by the bytes of the files that were loaded so far, in order: a script, its mission, and the behaviour file
+-- Where a job is, by the bytes of the files that were loaded so far, in order: a script, its mission, and the behaviour file
 -- that the mission names; or the one file of another job, or none. The number of workers is no part of it.
 abbrev pub turn_of : Job → List (List ℕ) → FileTurn Task
 turn_of (Play name mission order workers) [] = Wanted ScriptFile name
@@ -69,7 +69,7 @@ turn_of (Simulate script mission vehicle contacts workers) files = turn_as Simul
 -- the iterations that the helm's own mails in a history come to
 abbrev pub iterations_on : Script → Option HelmFiles → History → List Iteration
 iterations_on script helm history =
-    iterations (option_map (steering_by script) helm) script.stop (heard_of (names_with script helm) (helm_number script) history)
+    iterations (option_map (helm_setup_by script) helm) script.stop (heard_of (names_with script helm) (helm_number script) history)
 
 -- the report of a history and the helm's iterations in it
 abbrev pub report_on : Script → Option HelmFiles → History → List ℕ
@@ -77,7 +77,7 @@ report_on script helm history = report_text (setup_of helm) (names_with script h
 
 -- a lawful history of a script in an order, with this helm or without one
 abbrev pub IsLawfulWith : Order → Script → Option HelmFiles → History → Type 0
-IsLawfulWith order script helm history = IsLawful order script (option_map (steering_by script) helm) (names_with script helm) history
+IsLawfulWith order script helm history = IsLawful order script (option_map (helm_setup_by script) helm) (names_with script helm) history
 
 -- The text is the report of a lawful history, which is the one that the text lists: no other lawful history has it. What a helm
 -- decides in it is decided by worth: the first point at which the sum over its behaviours of weight times utility is greatest.

@@ -25,7 +25,7 @@ pub record HasNoJob (words : List (List ℕ)) (run : Surroundings) : Type 0 wher
   pub load_faults : run.load_faults_after ≡ run.load_faults_before
   pub silent : IsUntouched run.sink
 
--- What a run with these words did that ended with this status. Where no memory was left to find the job, nothing was written.
+-- What a run with these words did that ended with this status. If no memory was left to find the job, nothing was written.
 abbrev pub EndsWith : List (List ℕ) → Surroundings → Status → Type 0
 EndsWith words run Usage = HasNoJob words run
 EndsWith words run NoMemory = IsUntouched run.sink ⊎ DidJob words run NoMemory
@@ -38,13 +38,13 @@ pub record HasFiles (words : List (List ℕ)) (run : Surroundings) (job : Job) (
   pub named : job_named words ≡ Some job
   pub loaded : AreLoaded run.told (turn_of job) [] files
 
--- such a job, where neither loading nor writing failed
+-- such a job, if neither loading nor writing failed
 pub record IsServed (words : List (List ℕ)) (run : Surroundings) (job : Job) (files : List (List ℕ)) : Type 0 where
   pub has : HasFiles words run job files
   pub loads : Rose run.load_faults_before run.load_faults_after → ⊥
   pub puts : Rose run.sink.faults_before.faults run.sink.faults_after.faults → ⊥
 
--- such a job, where the folder is sure of each file that it tells
+-- such a job, if the folder is sure of each file that it tells
 pub record IsHeld (words : List (List ℕ)) (run : Surroundings) (job : Job) (files : List (List ℕ)) : Type 0 where
   pub has : HasFiles words run job files
   pub sure : (name bytes : List ℕ) → has.told name ≡ Some bytes → is_among run.sure name ≡ true
@@ -76,7 +76,7 @@ Refuses words run status =
     (job : Job) (files : List (List ℕ)) (kind : FileKind) (line : ℕ) (cause : Cause) → IsServed words run job files → turn_of job files ≡ Unfit kind (At line cause)
     → IsRefusedBut kind line cause status
 
--- the first of both where nothing can fail: the folder is sure of its files, and the sink has room for the output
+-- the first of both if nothing can fail: the folder is sure of its files, and the sink has room for the output
 abbrev pub Succeeds : List (List ℕ) → Surroundings → Status → Type 0
 Succeeds words run status =
     (job : Job) (files : List (List ℕ)) (task : Task) → IsHeld words run job files → turn_of job files ≡ Ready task → HasRoomFor task run.sink → IsDoneBut task run status

@@ -19,7 +19,7 @@ use std::sync::Wait;
 use std::thread::Threads;
 
 /// Runs the job that the command line names: loads and reads its files from `folder`, each before the next is loaded, and writes
-/// to `out`. The status tells how it ended, and what was written with it; [`run_law`] says what follows where nothing fails.
+/// to `out`. The status tells how it ended, and what was written with it; [`run_law`] says what follows if nothing fails.
 #[tactic(auto, using(crate::proofs::Endings::did))]
 pub fn run<R: Threads + Wait + Sync, F: Folder, K: Sink, G: Gate>(
     rt: &R,
@@ -43,7 +43,7 @@ pub fn run<R: Threads + Wait + Sync, F: Folder, K: Sink, G: Gate>(
     }
 }
 
-/// What holds of runs, whatever they did. Where nothing fails, a job whose files are good is done, and another is refused with
+/// What holds of runs, whatever they did. If nothing fails, a job whose files are good is done, and another is refused with
 /// the first refusal of the first file that isn't. Over a folder that is sure of its files, and a sink with room for all that is
 /// written, nothing fails. It does nothing.
 pub fn run_law()

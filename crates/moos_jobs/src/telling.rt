@@ -1,7 +1,7 @@
 // A run whose report is written as it comes: how it begins before the first round, and what each round brings before the next.
 ghost use Rattle.std.specs.Prelude.{◌≡◌, ◌+◌, ◌^◌, ◌<◌, ◌≤◌, [], length, option_map, IfErr, IfNone, IfOk, IfSome, OnOk, Option, List, ℕ};
 ghost use Rattle.moos_io.specs.Faults.{Faring, FaresOn};
-ghost use Rattle.moos_play.specs.Lawful.{MayStart, names_with, opening, steering_with};
+ghost use Rattle.moos_play.specs.Lawful.{MayStart, names_with, opening, helm_setup_with};
 ghost use Rattle.moos_play.specs.Plays.{clients_in, GoesOnWith, HasCompletion, helm_in, history_in, IsBetween, IsPlayedOut, iterations_made, left_in, order_played, script_played};
 ghost use Rattle.moos_report.specs.Lines.{KeepsLines};
 ghost use Rattle.command_line.specs.Endings.{sinking};
@@ -36,7 +36,7 @@ pub fn play_rounds<R: Threads + Wait + Sync, K: Sink, G: Gate>(
     requires valid { IsValid script.now }
     requires helm { IfSome helm MayStart }
     requires few { (1 ≤ workers) × (workers ≤ 16) }
-    ensures { Tells (IsOfLawful order script.now (option_map (steering_with script.now) helm) setup.now)
+    ensures { Tells (IsOfLawful order script.now (option_map (helm_setup_with script.now) helm) setup.now)
         (sinking (K.taken out.old) (K.taken out.new) (K.faults out.old) (K.faults out.new)) result }
 {
     match Play::make(rt, alloc, script, helm, List::new(alloc), order, gate) {
@@ -90,8 +90,8 @@ fn tell<R: Threads + Wait + Sync, K: Sink, G: Gate>(
     }
 }
 
-// Plays the next round and tells it, where the helm has made so many iterations before, and answers how many it made in it.
-// None where no round is left. The buffer is empty before and after, and the lines that are kept are of the play's posts.
+// Plays the next round and tells it, if the helm has made so many iterations before, and answers how many it made in it.
+// None if no round is left. The buffer is empty before and after, and the lines that are kept are of the play's posts.
 fn tell_round<R: Threads + Wait + Sync, K: Sink, G: Gate>(
     rt: &R,
     alloc: Global,

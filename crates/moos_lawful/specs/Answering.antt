@@ -29,7 +29,7 @@ abbrev pub openings : {A : Type 0} → ℕ → List (Answerer A) → List Entry
 openings client [] = []
 openings client (answerer ∷ others) = map (entry_of client 0) answerer.opening ++ openings (suc client) others
 
--- the turns of the client of a number, where it is among these, the first of which has this number
+-- the turns of the client of a number, if it is among these, the first of which has this number
 abbrev pub answers_of : {A : Type 0} → ℕ → ℕ → ℕ → List (Answerer A) → ℕ → List A → List Entry
 answers_of period ticks client [] n heard = []
 answers_of period ticks client (answerer ∷ others) n heard =

@@ -26,7 +26,7 @@ rises low [] = true
 rises low (n ∷ ns) = nat_le low n && rises n ns
 
 -- What is played: how the history begins, what each of the known clients is due to do over what it hears, what it hears, how
--- many clients have a name, and the moment of an entry, before which no entry of a later moment may stand.
+-- many clients have a name, and the moment of an entry, before which no entry of a later moment may be.
 pub record Schedule (A : Type 0) : Type 0 where
   pub start : History
   pub known : ℕ
@@ -44,7 +44,7 @@ abbrev pub moments_with : {A : Type 0} → Schedule A → History → List Entry
 moments_with schedule rest more = map schedule.moment (entries_below schedule.known rest ++ more)
 
 -- A history that is lawful so far: behind the start each known client's entries are the first of what it is due to do, over what
--- it hears in this history, and the others are left. No entry stands behind one of a later moment, nor would one that is left.
+-- it hears in this history, and the others are left. No entry follows one of a later moment, nor would one that is left.
 -- Clients that aren't known may have any entries, but nobody without a name has one.
 pub record IsLawfulSoFar {A : Type 0} (schedule : Schedule A) (history : History) : Type 0 where
   pub rest : History

@@ -13,8 +13,8 @@ use Rattle.moos_post.specs.declared.value.Post.{Post}
 use Rattle.moos_post.specs.declared.value.Value.TheVariants.{Num}
 use Rattle.moos_post.specs.Delivery.{mail_after, Mailing, mailed_to, mailing}
 use Rattle.moos_post.specs.History.{History, posts_of}
-use Rattle.moos_mail.specs.declared.stretches.Stretch.{Stretch}
-use Rattle.moos_mail.specs.Mailboxes.{MailboxState, AreStretches, in_rising_order, is_one_of, IsPlaceAmong, numbers_of_all, with_number}
+use Rattle.moos_mail.specs.declared.number_ranges.NumberRange.{NumberRange}
+use Rattle.moos_mail.specs.Mailboxes.{MailboxState, AreNumberRanges, in_rising_order, is_one_of, IsPlaceAmong, numbers_of_all, with_number}
 use Rattle.moos_mail.specs.Registrations.{MadeReg, made_at, live_before, came_through, is_to_mail, is_mailed_at, IsLive, regs_of}
 use Rattle.moos_mail.specs.Sentences.{given_at, given_before, HearsAll, keeps_lives, mailed_between, numbers_mailed, numbers_selected, posts_before, since, StampsRise, AreOnceEach, IsBefore, IsMadeBy}
 
@@ -126,31 +126,31 @@ put_in_order : (with_number 2 (1 ∷ 3 ∷ []) ≡ 1 ∷ 2 ∷ 3 ∷ []) × (in_
 put_in_order = (refl, refl)
 
 -- 1 to 3, and 6
-abbrev some_stretches : List Stretch
-some_stretches = record { first = 1; last = 3 } ∷ record { first = 6; last = 6 } ∷ []
+abbrev some_number_ranges : List NumberRange
+some_number_ranges = record { first = 1; last = 3 } ∷ record { first = 6; last = 6 } ∷ []
 
-numbers_are : numbers_of_all some_stretches ≡ 1 ∷ 2 ∷ 3 ∷ 6 ∷ []
+numbers_are : numbers_of_all some_number_ranges ≡ 1 ∷ 2 ∷ 3 ∷ 6 ∷ []
 numbers_are = refl
 
-are_stretches : AreStretches 1 some_stretches
-are_stretches = (omega arith, omega arith, (omega arith, omega arith, tt))
+are_number_ranges : AreNumberRanges 1 some_number_ranges
+are_number_ranges = (omega arith, omega arith, (omega arith, omega arith, tt))
 
-not_from_two : AreStretches 2 some_stretches → ⊥
+not_from_two : AreNumberRanges 2 some_number_ranges → ⊥
 not_from_two are = let from : 2 ≤ 1 = are.0 in omega arith
 
-its_place : IsPlaceAmong 4 some_stretches 1
+its_place : IsPlaceAmong 4 some_number_ranges 1
 its_place = record { within = omega arith; below = below; from = from }
   where
-    below : (k : ℕ) (d : Stretch) → k < 1 → (get_or some_stretches k d).last < 4
+    below : (k : ℕ) (d : NumberRange) → k < 1 → (get_or some_number_ranges k d).last < 4
     below zero d first = omega arith
     below (suc k) d first = absurd (omega arith)
 
-    from : (k : ℕ) (d : Stretch) → 1 ≤ k → k < 2 → 4 ≤ (get_or some_stretches k d).last
+    from : (k : ℕ) (d : NumberRange) → 1 ≤ k → k < 2 → 4 ≤ (get_or some_number_ranges k d).last
     from zero d behind inside = absurd (omega arith)
     from (suc zero) d behind inside = omega arith
     from (suc (suc k)) d behind inside = absurd (omega arith)
 
-no_place : IsPlaceAmong 4 some_stretches 0 → ⊥
+no_place : IsPlaceAmong 4 some_number_ranges 0 → ⊥
 no_place place = let behind : 4 ≤ 3 = place.from 0 (record { first = 1; last = 3 }) (omega arith) (omega arith) in omega arith
 
 -- Live registrations: the second place of an entry ends the first, a later entry ends one of another, and a client's own

@@ -63,7 +63,7 @@ live_from client number (entry ∷ later) =
 abbrev pub live_before : ℕ → History → ℕ → List MadeReg
 live_before client history k = live_from client 0 (take k history)
 
--- The registration stands at a place of the list of an entry before k, and no later place of that list and no entry
+-- The registration is at a place of the list of an entry before k, and no later place of that list and no entry
 -- between that one and k registers or unregisters the same patterns.
 pub record IsLive (client : ℕ) (history : History) (k : ℕ) (made : MadeReg) : Type 0 where
   pub entry : Entry
@@ -81,15 +81,15 @@ is_mailed_at n e mailed = list_any (λ one. one.number == n && one.entry == e) m
 abbrev pub live_with : MadeReg → List Post → Live
 live_with made came = record { reg = made.reg; made = made.entry; came = came }
 
--- Post n comes through a registration through which these came before: a post that was made before the registration where
--- it is mailed at the registration's own entry and selected, and a later one where it is due.
+-- Post n comes through a registration through which these came before: a post that was made before the registration if
+-- it is mailed at the registration's own entry and selected, and a later one if it is due.
 abbrev pub comes_through : List (List ℕ) → ℕ → History → MadeReg → ℕ → List Post → Post → Bool
 comes_through names client history made n came post =
     if nat_lt n (posts_before history made.entry)
     then is_mailed_at n made.entry (mailed_to names client history) && selects names made.reg post
     else is_due names post (live_with made came)
 
--- what came through the registration, with post n too where there is one and it comes through
+-- what came through the registration, with post n too if there is one and it comes through
 abbrev pub with_next : List (List ℕ) → ℕ → History → MadeReg → ℕ → List Post → Option Post → List Post
 with_next names client history made n came None = came
 with_next names client history made n came (Some post) = if comes_through names client history made n came post then came ++ post ∷ [] else came
@@ -99,7 +99,7 @@ abbrev pub came_through : List (List ℕ) → ℕ → History → MadeReg → �
 came_through names client history made zero = []
 came_through names client history made (suc n) = with_next names client history made n (came_through names client history made n) (slice_get (posts_of history) n)
 
--- the registration as it stands before post n
+-- the registration as it is before post n
 abbrev pub live_at : List (List ℕ) → ℕ → History → ℕ → MadeReg → Live
 live_at names client history n made = live_with made (came_through names client history made n)
 
@@ -120,7 +120,7 @@ catches_up_at names client history e n (Some post) =
     && is_wanted_anew names client history e post
     && not (was_mailed n (mailed_to names client (take e history)))
 
--- Post n is to be mailed at entry e: an earlier one where it catches up there, one that the entry makes where it is due,
+-- Post n is to be mailed at entry e: an earlier one if it catches up there, one that the entry makes if it is due,
 -- and no later one.
 abbrev pub is_to_mail : List (List ℕ) → ℕ → History → ℕ → ℕ → Bool
 is_to_mail names client history n e =

@@ -22,7 +22,7 @@ pub record IsMadeBy (history : History) (one : Mailing) : Type 0 where
 abbrev pub IsBefore : Mailing → Mailing → Type 0
 IsBefore one later = (one.entry < later.entry) ⊎ ((one.entry ≡ later.entry) × (one.number < later.number))
 
--- no post is mailed twice, each is mailed when it was made or later, and the mailings stand in the order of their entries,
+-- no post is mailed twice, each is mailed when it was made or later, and the mailings are in the order of their entries,
 -- those of one entry in the order of their numbers
 pub record AreOnceEach (history : History) (mailed : List Mailing) : Type 0 where
   pub once : AllPairs (λ one later. one.number ≢ later.number) mailed
@@ -34,7 +34,7 @@ abbrev pub is_fetch_of : ℕ → Option Entry → Bool
 is_fetch_of client None = false
 is_fetch_of client (Some entry) = entry.client == client && is_fetch entry.call
 
--- the entry behind the client's last fetch before entry k, and the first entry where it didn't fetch before
+-- the entry behind the client's last fetch before entry k, and the first entry if it didn't fetch before
 abbrev pub since : ℕ → History → ℕ → ℕ
 since client history zero = 0
 since client history (suc k) = if is_fetch_of client (slice_get history k) then suc k else since client history k
@@ -66,7 +66,7 @@ numbers_mailed names client history = map (λ one. one.number) (mailed_to names 
 abbrev pub is_selected : List (List ℕ) → List Reg → Post → Bool
 is_selected names regs post = list_any (λ reg. selects names reg post) regs
 
--- the numbers of those of these posts that some of the registrations selects, where the first post has this number
+-- the numbers of those of these posts that some of the registrations selects, if the first post has this number
 abbrev pub numbers_selected : List (List ℕ) → List Reg → ℕ → List Post → List ℕ
 numbers_selected names regs number [] = []
 numbers_selected names regs number (post ∷ posts) =

@@ -8,9 +8,9 @@ ghost use Rattle.moos_mail.specs.Sentences.{AreOnceEach, given_at, given_before,
 
 /// What holds of the delivery rule, which is told entry by entry, in sentences about the places of a history: each post is
 /// mailed at most once, when it was made or later; a fetch gives just what was mailed since the fetch before; a post is
-/// mailed just where it is due or catches up; and which registrations are live where, and which posts came through them.
+/// mailed just if it is due or catches up; and which registrations are live where, and which posts came through them.
 /// All mails of a client joined, and then what waits for it, are all that was mailed to it, in order; and to a client that
-/// registers once, before anybody posts, without an interval, that is each post that its registrations select, where stamps
+/// registers once, before anybody posts, without an interval, that is each post that its registrations select, if stamps
 /// don't fall. It does nothing.
 pub fn delivery_law()
     ensures once { (names : List (List ℕ)) (client : ℕ) (history : History) → AreOnceEach history (mailed_to names client history) }

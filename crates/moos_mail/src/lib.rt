@@ -2,17 +2,17 @@
 //!
 //! The contract for the layers above: a mailbox is the list that waits, the list of all numbers ever mailed, and how many
 //! more can be mailed without memory. Memory is taken by `reserve` alone, so that a caller can take it for a whole call
-//! before anything changes. The numbers ever mailed are kept as stretches of numbers that follow one another, in rising
+//! before anything changes. The numbers ever mailed are kept as ranges of numbers that follow one another, in rising
 //! order, so that one is found by halves.
 //!
 //! `delivery_law` says the delivery rule over again, in sentences about the places of a history.
 //!
-//! Reading order: `stretches`, `mailbox`, then `law`, the sentences.
+//! Reading order: `number_ranges`, `mailbox`, then `law`, the sentences.
 #![tactic(auto)]
 
 mod law;
 mod mailbox;
-mod stretches;
+mod number_ranges;
 
 pub use law::delivery_law;
 pub use mailbox::Mailbox;

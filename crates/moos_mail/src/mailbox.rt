@@ -3,7 +3,7 @@ ghost use Rattle.std.specs.Prelude.{◌≡◌, ◌≤◌, ◌+◌, ◌++◌, ◌
 ghost use Rattle.moos_mail.specs.Mailboxes.{is_one_of, with_number};
 
 use crate::Numbers;
-use crate::stretches::{Stretch, add_number, has_number};
+use crate::number_ranges::{NumberRange, add_number, has_number};
 use moos_post::NoMemory;
 use std::alloc::Global;
 use std::marker::Model;
@@ -15,13 +15,13 @@ use std::mem;
 /// order, and the spare room: how many more can be mailed without memory.
 #[derive(Drop)]
 pub struct Mailbox {
-    mailed: Vec<Stretch>,
+    mailed: Vec<NumberRange>,
     waiting: Vec<u64>,
 }
 
 impl Model for Mailbox {
     ghost use Rattle.std.specs.Prelude.{◌-◌, min, vec_len, vec_capacity};
-    ghost use Rattle.moos_mail.specs.Mailboxes.{AreStretches, MailboxState, numbers_of_all};
+    ghost use Rattle.moos_mail.specs.Mailboxes.{AreNumberRanges, MailboxState, numbers_of_all};
 
     ghost Value = { MailboxState };
 
@@ -31,7 +31,7 @@ impl Model for Mailbox {
       spare = min (vec_capacity mailbox.mailed - vec_len mailbox.mailed) (vec_capacity mailbox.waiting - vec_len mailbox.waiting);
     } };
 
-    ghost invariant = { λ mailbox. AreStretches 0 mailbox.mailed.items };
+    ghost invariant = { λ mailbox. AreNumberRanges 0 mailbox.mailed.items };
 }
 
 impl Mailbox {

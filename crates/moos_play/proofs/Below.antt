@@ -13,7 +13,7 @@ use Rattle.moos_post.specs.declared.entry.Entry.{Entry}
 use Rattle.moos_post.specs.History.{History}
 use Rattle.moos_lawful.proofs.Parts.{below_kept}
 use Rattle.moos_lawful.specs.Schedules.{clients_below, entries_below, entries_from}
-use Rattle.moos_play.specs.Lawful.{heard_of, helm_number, IsLawful, IsLawfulBeside, KeepsOrder, known_clients, names_with, Steering, tick_entries, ticks}
+use Rattle.moos_play.specs.Lawful.{heard_of, helm_number, IsLawful, IsLawfulBeside, KeepsOrder, known_clients, names_with, HelmSetup, tick_entries, ticks}
 use Rattle.moos_client.proofs.Histories.{all_kept, all_own, front_pass}
 use Rattle.script_reader.specs.declared.script.Order.{Order}
 use Rattle.script_reader.specs.declared.script.Script.{Script}
@@ -65,7 +65,7 @@ beside_pass number helm lines added less clients fronts = all_own (λ entry. nat
     by n (no other) = front_pass (λ entry. nat_lt entry.client number) (entries_of n lines) (entries_of n added) (fronts n other) (all_kept (λ entry. nat_lt entry.client number) (λ entry. entry.client == n) lines clients)
 
 -- the entries of a tick are the helm's
-pub tick_below : (helm : Steering) (number : ℕ) (heard : List Tick) (i : ℕ) → helm.client < number → clients_below number (tick_entries helm heard i) ≡ true
+pub tick_below : (helm : HelmSetup) (number : ℕ) (heard : List Tick) (i : ℕ) → helm.client < number → clients_below number (tick_entries helm heard i) ≡ true
 tick_below helm number heard i less =
     let here : nat_lt helm.client number ≡ true = grind (arith, nat_tests, less) in
     and_from (nat_lt helm.client number) (nat_lt helm.client number && true) here (and_from (nat_lt helm.client number) true here refl)
@@ -92,7 +92,7 @@ own_below number n (x ∷ xs) less = by (nat_lt x.client number) refl (own_below
     by false here rest = rest ∙ sym (ap (λ b. cond b (x ∷ entries_of n xs) (entries_of n xs)) (ne_eqb x.client n (λ e. grind (arith, nat_tests, here, e, less))))
 
 -- where there are no further clients a history is lawful by itself
-pub lawful_alone : (order : Order) (script : Script) (helm : Option Steering) (names : List (List ℕ)) (history : History) → names ≡ names_with script helm → IsLawfulBeside order script helm names history → IsLawful order script helm names history
+pub lawful_alone : (order : Order) (script : Script) (helm : Option HelmSetup) (names : List (List ℕ)) (history : History) → names ≡ names_with script helm → IsLawfulBeside order script helm names history → IsLawful order script helm names history
 lawful_alone order script helm names history is so = record {
   rest = so.rest;
   opened = so.opened;

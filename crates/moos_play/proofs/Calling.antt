@@ -21,7 +21,7 @@ use Rattle.moos_client.proofs.Hearing.{heard_on}
 use Rattle.moos_lawful.specs.Schedules.{IsLawfulSoFar}
 use Rattle.moos_step.specs.Steps.{added_by, IsGathered, IsWhole}
 use Rattle.moos_play.specs.declared.stage.Stage.{Stage}
-use Rattle.moos_play.specs.declared.steersman.Steersman.{Steersman}
+use Rattle.moos_play.specs.declared.helm_client.HelmClient.{HelmClient}
 use Rattle.moos_post.specs.History.{History}
 use Rattle.moos_post.specs.declared.entry.Entry.{Entry}
 
@@ -39,21 +39,21 @@ not_helm (Ok _) n entry past = ap (λ b. cond b (entry ∷ []) []) (ne_eqb entry
 not_helm (Err _) n entry past = refl
 
 -- who is at the helm stands as before
-helm_stands : {A : Type 0} (result : Result A AllocError) (play : Stage) (entry : Entry) (steersman : Option Steersman) (history : History) → known_clients play.script.now (helm_of steersman) ≤ entry.client → StandsAt play.lock.base (helm_number play.script.now) steersman history
-    → StandsAt play.lock.base (helm_number play.script.now) steersman (history ++ added_by result entry)
+helm_stands : {A : Type 0} (result : Result A AllocError) (play : Stage) (entry : Entry) (helm_client : Option HelmClient) (history : History) → known_clients play.script.now (helm_of helm_client) ≤ entry.client → StandsAt play.lock.base (helm_number play.script.now) helm_client history
+    → StandsAt play.lock.base (helm_number play.script.now) helm_client (history ++ added_by result entry)
 helm_stands result play entry None history past so = tt
 helm_stands result play entry (Some s) history past so =
     stands_on play.lock.base (helm_number play.script.now) (Some s) history (added_by result entry) so (not_helm result (helm_number play.script.now) entry (omega (arith, past, known_helm play.script.now s)))
 
 -- and has made the same iterations
-helm_made : {A : Type 0} (result : Result A AllocError) (play : Stage) (entry : Entry) (steersman : Option Steersman) (history : History) → known_clients play.script.now (helm_of steersman) ≤ entry.client → StandsAt play.lock.base (helm_number play.script.now) steersman history
-    → iterations_by play.lock.base (history ++ added_by result entry) (helm_of steersman) (ticks_in steersman) ≡ iterations_by play.lock.base history (helm_of steersman) (ticks_in steersman)
+helm_made : {A : Type 0} (result : Result A AllocError) (play : Stage) (entry : Entry) (helm_client : Option HelmClient) (history : History) → known_clients play.script.now (helm_of helm_client) ≤ entry.client → StandsAt play.lock.base (helm_number play.script.now) helm_client history
+    → iterations_by play.lock.base (history ++ added_by result entry) (helm_of helm_client) (ticks_in helm_client) ≡ iterations_by play.lock.base history (helm_of helm_client) (ticks_in helm_client)
 helm_made result play entry None history past so = refl
 helm_made result play entry (Some s) history past so =
     ap (λ heard. iterations_of (plan_of s.helm) heard s.ticks) (heard_on (mailed_in play.lock.base) s.number history (added_by result entry) (not_helm result s.number entry (omega (arith, past, so.0, known_helm play.script.now s))))
 
 -- the entry of a further client changes nothing of what is left for the others
-further_played : {A : Type 0} (result : Result A AllocError) (order : Order) (script : Script) (names : List (List ℕ)) (s : Option Steersman) (from : ℕ) (history : History) (entry : Entry) → HasPlayed order script names s from history → parts script s ≤ length names → StandsAt names (helm_number script) s history
+further_played : {A : Type 0} (result : Result A AllocError) (order : Order) (script : Script) (names : List (List ℕ)) (s : Option HelmClient) (from : ℕ) (history : History) (entry : Entry) → HasPlayed order script names s from history → parts script s ≤ length names → StandsAt names (helm_number script) s history
     → parts script s ≤ entry.client → entry.client < length names → HasPlayed order script names s from (history ++ added_by result entry)
 further_played (Err _) order script names s from history entry played room stands past named = subst (HasPlayed order script names s from) (sym (append-nil history)) played
 further_played (Ok _) order script names s from history entry played room stands past named = record {
@@ -67,7 +67,7 @@ further_played (Ok _) order script names s from history entry played room stands
     silent : helm_number script < entry.client → entries_of (helm_number script) (entry ∷ []) ≡ []
     silent past = ap (λ b. cond b (entry ∷ []) []) (ne_eqb entry.client (helm_number script) (λ e. omega (arith, e, past)))
 
-    turns : (s : Option Steersman) → StandsAt names (helm_number script) s history → parts script s ≤ entry.client → turns_left script.stop s names history ≡ turns_left script.stop s names (history ++ entry ∷ [])
+    turns : (s : Option HelmClient) → StandsAt names (helm_number script) s history → parts script s ≤ entry.client → turns_left script.stop s names history ≡ turns_left script.stop s names (history ++ entry ∷ [])
     turns None stands past = refl
     turns (Some t) stands past = turns_stay script.stop names (helm_number script) (Some t) history (entry ∷ []) stands (silent (omega (arith, past)))
 
@@ -86,8 +86,8 @@ entered_between result play w entry after between further gathered whole is = re
       whole = whole;
       within = under.within;
       seats = under.seats;
-      played = subst (HasPlayed play.order play.script.now play.lock.base play.steersman play.from) (sym is) (further_played result play.order play.script.now play.lock.base play.steersman play.from play.first.seat.seen entry under.played under.seats under.steered (omega (arith, further.past, parts_known play.script.now play.steersman)) further.named);
-      steered = subst (StandsAt play.lock.base (helm_number play.script.now) play.steersman) (sym is) (helm_stands result play entry play.steersman play.first.seat.seen further.past under.steered);
+      played = subst (HasPlayed play.order play.script.now play.lock.base play.helm_client play.from) (sym is) (further_played result play.order play.script.now play.lock.base play.helm_client play.from play.first.seat.seen entry under.played under.seats under.steered (omega (arith, further.past, parts_known play.script.now play.helm_client)) further.named);
+      steered = subst (StandsAt play.lock.base (helm_number play.script.now) play.helm_client) (sym is) (helm_stands result play entry play.helm_client play.first.seat.seen further.past under.steered);
     };
     calls = between.at_play.calls;
     period = between.at_play.period;
@@ -95,10 +95,10 @@ entered_between result play w entry after between further gathered whole is = re
   told = between.told;
 }
   where
-    under : IsUnderWay play.order play.script.now play.lock play.steersman play.from play.first.seat
+    under : IsUnderWay play.order play.script.now play.lock play.helm_client play.from play.first.seat
     under = between.at_play.under
 
 pub entered_made : {A : Type 0} (result : Result A AllocError) (play : Stage) (w : Bool) (entry : Entry) (after : SeatState) → IsPaused play → IsFurther (playing_of play w) entry.client → after.seen ≡ play.first.seat.seen ++ added_by result entry
     → iterations_made (shown_by (seated_at play after)) ≡ iterations_made (shown_by play)
 entered_made result play w entry after between further is =
-    ap (λ history. iterations_by play.lock.base history (helm_of play.steersman) (ticks_in play.steersman)) is ∙ helm_made result play entry play.steersman play.first.seat.seen further.past between.at_play.under.steered
+    ap (λ history. iterations_by play.lock.base history (helm_of play.helm_client) (ticks_in play.helm_client)) is ∙ helm_made result play entry play.helm_client play.first.seat.seen further.past between.at_play.under.steered

@@ -9,7 +9,7 @@ use Rattle.moos_client.specs.Calls.{entries_of, entry_of}
 use Rattle.moos_post.specs.declared.entry.Call.TheVariants.{Post as Posts, Fetch}
 use Rattle.moos_post.specs.declared.entry.Entry.{Entry}
 use Rattle.moos_post.specs.History.{History}
-use Rattle.moos_play.specs.Lawful.{heard_of, IsLawful, KeepsOrder, opening, opening_of, Steering, tick_entries, ticks, ticks_to}
+use Rattle.moos_play.specs.Lawful.{heard_of, IsLawful, KeepsOrder, opening, opening_of, HelmSetup, tick_entries, ticks, ticks_to}
 use Rattle.moos_play.specs.Steered.{IsStopped}
 use Rattle.script_reader.specs.declared.script.Order.TheVariants.{Stamp, Race}
 use Rattle.script_reader.specs.declared.script.Script.{Script}
@@ -25,7 +25,7 @@ names = codes "a" ∷ codes "pHelmIvP" ∷ []
 abbrev plan : Plan
 plan = record { axes = []; opening = []; decls = []; blocks = [] }
 
-abbrev helm : Steering
+abbrev helm : HelmSetup
 helm = record { client = 1; plan = plan; period = 250 }
 
 -- there is a tick at 0 and, up to a quarter of a second, one at its end

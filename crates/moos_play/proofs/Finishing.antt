@@ -20,12 +20,12 @@ use Rattle.moos_post.specs.declared.entry.Entry.{Entry}
 use Rattle.moos_post.specs.History.{History}
 use Rattle.moos_play.specs.declared.stage.Stage.{Stage}
 use Rattle.moos_play.specs.declared.run.HelmRun.{HelmRun}
-use Rattle.moos_play.specs.declared.steersman.Steersman.{Steersman}
-use Rattle.moos_play.specs.Lawful.{heard_of, helm_number, IsLawful, IsLawfulBeside, iterations, KeepsOrder, known_clients, mailed_in, moment_of, names_with, opening_of, Steering, steering_with, ticks_of, ticks_to}
+use Rattle.moos_play.specs.declared.helm_client.HelmClient.{HelmClient}
+use Rattle.moos_play.specs.Lawful.{heard_of, helm_number, IsLawful, IsLawfulBeside, iterations, KeepsOrder, known_clients, mailed_in, moment_of, names_with, opening_of, HelmSetup, helm_setup_with, ticks_of, ticks_to}
 use Rattle.moos_play.specs.Plays.{clients_in, GoesOnWith, HasCompletion, HasSteeredSoFar, HasTicked, helm_in, history_in, IsPlayedOut, IsRunFor, iterations_by, iterations_made, left_in, order_played, Playing, script_played, ticks_behind}
 use Rattle.moos_play.specs.Runs.{IsAtPlay, IsCutOff, IsPaused, playing_of, shown_by}
 use Rattle.moos_play.specs.Schedules.{answerers, answering, schedule_with, tick_period}
-use Rattle.moos_play.specs.Steered.{helm_of, parts, steering_of, turns_left, ticks_in}
+use Rattle.moos_play.specs.Steered.{helm_of, parts, helm_setup_of, turns_left, ticks_in}
 use Rattle.moos_play.proofs.Standing.{HasHeard, StandsAt}
 use Rattle.moos_play.proofs.Below.{kept_pass, lawful_alone, names_more, own_below}
 use Rattle.moos_play.proofs.Coming.{has_heard}
@@ -39,7 +39,7 @@ use Rattle.script_reader.specs.declared.script.Script.{Script}
 use Rattle.script_reader.specs.Validity.{are_lines}
 
 -- a fetch a turn
-fetches_turns : (helm : Steering) (heard : List Tick) (i count : ℕ) → fetches (turns_from (answering helm) helm.client helm.period heard i count) ≡ count
+fetches_turns : (helm : HelmSetup) (heard : List Tick) (i count : ℕ) → fetches (turns_from (answering helm) helm.client helm.period heard i count) ≡ count
 fetches_turns helm heard i zero = refl
 fetches_turns helm heard i (suc count) = ap suc (fetches_turns helm heard (suc i) count)
 
@@ -68,7 +68,7 @@ moment_new clients entry below = by (entry.client == clients) refl
     by false e = let less : entry.client < clients = grind (arith, nat_tests, e, below) in omega (arith, less)
 
 -- with a helm
-lawful_helm : (order : Order) (script : Script) (helm : Steering) (names : List (List ℕ)) (history : History) → helm.client ≡ helm_number script → list_all (λ line. nat_lt line.client (helm_number script)) script.lines ≡ true
+lawful_helm : (order : Order) (script : Script) (helm : HelmSetup) (names : List (List ℕ)) (history : History) → helm.client ≡ helm_number script → list_all (λ line. nat_lt line.client (helm_number script)) script.lines ≡ true
     → IsLawfulFor (schedule_with order script (Some helm) names) history → IsLawfulBeside order script (Some helm) names history
 lawful_helm order script helm names history number lines so = record {
   rest = so.rest;
@@ -186,31 +186,31 @@ lawful_lines order script names history lines so = record {
         (subst (λ k. rises 0 (map (moment_in Stamp clients 0) (entries_below k so.rest)) ≡ true) no_more (subst (λ all. rises 0 (map (moment_in Stamp clients 0) all) ≡ true) (append-nil (entries_below (clients + 0) so.rest)) h))
 
 -- A HISTORY THAT IS LAWFUL FOR THE SCHEDULE of a script and its helm is lawful beside the entries of further clients.
-lawful_beside : (order : Order) (script : Script) (s : Option Steersman) (names : List (List ℕ)) (history past : History) → are_lines (length script.names) 0 script.stop script.lines ≡ true → HasHeard names (helm_number script) script.stop s past
+lawful_beside : (order : Order) (script : Script) (s : Option HelmClient) (names : List (List ℕ)) (history past : History) → are_lines (length script.names) 0 script.stop script.lines ≡ true → HasHeard names (helm_number script) script.stop s past
     → IsLawfulFor (schedule_with order script (helm_of s) names) history → IsLawfulBeside order script (helm_of s) names history
 lawful_beside order script None names history past valid heard so = lawful_lines order script names history (lines_clients (length script.names) 0 script.stop script.lines valid) so
-lawful_beside order script (Some s) names history past valid heard so = lawful_helm order script (steering_of s) names history heard.0 (lines_clients (length script.names) 0 script.stop script.lines valid) so
+lawful_beside order script (Some s) names history past valid heard so = lawful_helm order script (helm_setup_of s) names history heard.0 (lines_clients (length script.names) 0 script.stop script.lines valid) so
 
 -- the schedule is playable
-pub plays : (order : Order) (script : Script) (s : Option Steersman) (names : List (List ℕ)) → parts script s ≤ length names → IsPlayable (schedule_with order script (helm_of s) names)
+pub plays : (order : Order) (script : Script) (s : Option HelmClient) (names : List (List ℕ)) → parts script s ≤ length names → IsPlayable (schedule_with order script (helm_of s) names)
 plays order script s names room = is_playable order script.lines (length script.names) script.stop (tick_period (helm_of s)) (answerers (helm_of s)) (length names) (mailed_in names) room
 
 -- as many clients have a part as are known
-pub parts_known : (script : Script) (s : Option Steersman) → parts script s ≡ known_clients script (helm_of s)
+pub parts_known : (script : Script) (s : Option HelmClient) → parts script s ≡ known_clients script (helm_of s)
 parts_known script None = omega arith
-parts_known script (Some s) = sym (names_more script (steering_of s))
+parts_known script (Some s) = sym (names_more script (helm_setup_of s))
 
 -- a run that was cut off can be completed
 pub completed : (play : Stage) (w : Bool) → are_lines (length play.script.now.names) 0 play.script.now.stop play.script.now.lines ≡ true → IsCutOff play → HasCompletion (playing_of play w)
 completed play w valid cut =
-    let whole = completion (schedule_with play.order play.script.now (helm_of play.steersman) play.lock.base) (plays play.order play.script.now play.steersman play.lock.base cut.room) play.first.seat.seen cut.so_far in
-    let made = iterations_more play.lock.base (helm_number play.script.now) play.script.now.stop play.steersman play.first.seat.seen whole.rest cut.heard in
-    let lawful = lawful_beside play.order play.script.now play.steersman play.lock.base (play.first.seat.seen ++ whole.rest) play.first.seat.seen valid cut.heard whole.lawful in
+    let whole = completion (schedule_with play.order play.script.now (helm_of play.helm_client) play.lock.base) (plays play.order play.script.now play.helm_client play.lock.base cut.room) play.first.seat.seen cut.so_far in
+    let made = iterations_more play.lock.base (helm_number play.script.now) play.script.now.stop play.helm_client play.first.seat.seen whole.rest cut.heard in
+    let lawful = lawful_beside play.order play.script.now play.helm_client play.lock.base (play.first.seat.seen ++ whole.rest) play.first.seat.seen valid cut.heard whole.lawful in
     record {
       rest = whole.rest;
-      known = subst (λ number. clients_below number whole.rest ≡ true) (parts_known play.script.now play.steersman) whole.known_alone;
+      known = subst (λ number. clients_below number whole.rest ≡ true) (parts_known play.script.now play.helm_client) whole.known_alone;
       lawful = lawful;
-      alone = λ named. lawful_alone play.order play.script.now (helm_of play.steersman) play.lock.base (play.first.seat.seen ++ whole.rest) named lawful;
+      alone = λ named. lawful_alone play.order play.script.now (helm_of play.helm_client) play.lock.base (play.first.seat.seen ++ whole.rest) named lawful;
       more = made.0;
       iterations = made.1;
     }
@@ -220,73 +220,73 @@ pub has_completion : (play : Stage) (w : Bool) → IsPaused play → HasCompleti
 has_completion play w between = completed play w between.at_play.valid.lines (record {
   so_far = between.at_play.under.played.so_far;
   room = between.at_play.under.seats;
-  heard = has_heard play.lock.base (helm_number play.script.now) play.script.now.stop play.steersman play.first.seat.seen between.at_play.under.steered between.at_play.period;
+  heard = has_heard play.lock.base (helm_number play.script.now) play.script.now.stop play.helm_client play.first.seat.seen between.at_play.under.steered between.at_play.period;
 })
 
 -- a run in which nothing is left
-lawful_end : (play : Stage) → IsAtPlay play → left_in (shown_by play) ≡ 0 → IsLawfulBeside play.order play.script.now (helm_of play.steersman) play.lock.base play.first.seat.seen
+lawful_end : (play : Stage) → IsAtPlay play → left_in (shown_by play) ≡ 0 → IsLawfulBeside play.order play.script.now (helm_of play.helm_client) play.lock.base play.first.seat.seen
 lawful_end play at none =
-    lawful_beside play.order play.script.now play.steersman play.lock.base play.first.seat.seen play.first.seat.seen at.valid.lines (has_heard play.lock.base (helm_number play.script.now) play.script.now.stop play.steersman play.first.seat.seen at.under.steered at.period)
-    (lawful_then (schedule_with play.order play.script.now (helm_of play.steersman) play.lock.base) (plays play.order play.script.now play.steersman play.lock.base at.under.seats) play.first.seat.seen at.under.played.so_far (λ n below. at.under.played.left n below ∙ by n (nat_lt n (length play.script.now.names))))
+    lawful_beside play.order play.script.now play.helm_client play.lock.base play.first.seat.seen play.first.seat.seen at.valid.lines (has_heard play.lock.base (helm_number play.script.now) play.script.now.stop play.helm_client play.first.seat.seen at.under.steered at.period)
+    (lawful_then (schedule_with play.order play.script.now (helm_of play.helm_client) play.lock.base) (plays play.order play.script.now play.helm_client play.lock.base at.under.seats) play.first.seat.seen at.under.played.so_far (λ n below. at.under.played.left n below ∙ by n (nat_lt n (length play.script.now.names))))
   where
     no_lines : drop play.from play.script.now.lines ≡ []
     no_lines = drop_all play.from play.script.now.lines (omega (arith, none))
 
-    no_turns : (s : Option Steersman) → ticks_behind play.script.now.stop (helm_of s) (ticks_in s) ≡ 0 → turns_left play.script.now.stop s play.lock.base play.first.seat.seen ≡ []
+    no_turns : (s : Option HelmClient) → ticks_behind play.script.now.stop (helm_of s) (ticks_in s) ≡ 0 → turns_left play.script.now.stop s play.lock.base play.first.seat.seen ≡ []
     no_turns None none = refl
-    no_turns (Some s) none = ap (turns_from (answering (steering_of s)) s.number s.period (heard_of play.lock.base s.number play.first.seat.seen) s.ticks) none
+    no_turns (Some s) none = ap (turns_from (answering (helm_setup_of s)) s.number s.period (heard_of play.lock.base s.number play.first.seat.seen) s.ticks) none
 
-    by : (n : ℕ) (b : Bool) → cond b (entries_of n (drop play.from play.script.now.lines)) (turns_left play.script.now.stop play.steersman play.lock.base play.first.seat.seen) ≡ []
+    by : (n : ℕ) (b : Bool) → cond b (entries_of n (drop play.from play.script.now.lines)) (turns_left play.script.now.stop play.helm_client play.lock.base play.first.seat.seen) ≡ []
     by n true = ap (entries_of n) no_lines
-    by n false = no_turns play.steersman (omega (arith, none))
+    by n false = no_turns play.helm_client (omega (arith, none))
 
 -- so its history is lawful, and by itself where there are no further clients, and its iterations are those of this history
 pub over_now : (play : Stage) (w : Bool) → IsAtPlay play → left_in (shown_by play) ≡ 0 → IsPlayedOut (playing_of play w)
 over_now play w at none = record {
   lawful = lawful;
-  alone = λ named. lawful_alone play.order play.script.now (helm_of play.steersman) play.lock.base play.first.seat.seen named lawful;
-  iterations = made_over play.lock.base (helm_number play.script.now) play.script.now.stop play.first.seat.seen play.steersman at.under.steered at.period (omega (arith, none));
+  alone = λ named. lawful_alone play.order play.script.now (helm_of play.helm_client) play.lock.base play.first.seat.seen named lawful;
+  iterations = made_over play.lock.base (helm_number play.script.now) play.script.now.stop play.first.seat.seen play.helm_client at.under.steered at.period (omega (arith, none));
 }
   where
-    lawful : IsLawfulBeside play.order play.script.now (helm_of play.steersman) play.lock.base play.first.seat.seen
+    lawful : IsLawfulBeside play.order play.script.now (helm_of play.helm_client) play.lock.base play.first.seat.seen
     lawful = lawful_end play at none
 
 -- the same of a run without further clients, where what it was begun with has other names
 pub over_as : (start play : Playing) (order : Order) (script : Script) (helm : Option HelmRun) (names : List (List ℕ)) (history : History) → IsPlayedOut play → GoesOnWith start play → order_played start ≡ order → script_played start ≡ script
-    → helm_in start ≡ option_map (steering_with script) helm → clients_in start ≡ names_with script helm → clients_in play ≡ names → history_in play ≡ history → IsLawful order script (option_map (steering_with script) helm) names history
-    × (iterations_made play ≡ iterations (option_map (steering_with script) helm) script.stop (heard_of names (helm_number script) history))
+    → helm_in start ≡ option_map (helm_setup_with script) helm → clients_in start ≡ names_with script helm → clients_in play ≡ names → history_in play ≡ history → IsLawful order script (option_map (helm_setup_with script) helm) names history
+    × (iterations_made play ≡ iterations (option_map (helm_setup_with script) helm) script.stop (heard_of names (helm_number script) history))
 over_as start play order script helm names history out on order_is script_is helm_is named names_is history_is = (
   subst (λ (p : Playing). IsLawful (order_played p) (script_played p) (helm_in p) (clients_in p) (history_in p)) is
       (out.alone (on.names ∙ named ∙ same helm ∙ (λ i. names_with (sym (on.script ∙ script_is) i) (sym (on.helm ∙ helm_is) i)))),
   out.iterations ∙ ap (λ (p : Playing). iterations (helm_in p) (script_played p).stop (heard_of (clients_in p) (helm_number (script_played p)) (history_in p))) is,
 )
   where
-    is : play ≡ record play { order = order; script = script; helm = option_map (steering_with script) helm; names = names; history = history }
+    is : play ≡ record play { order = order; script = script; helm = option_map (helm_setup_with script) helm; names = names; history = history }
     is = λ i. record play { order = (on.order ∙ order_is) i; script = (on.script ∙ script_is) i; helm = (on.helm ∙ helm_is) i; names = names_is i; history = history_is i }
 
-    same : (helm : Option HelmRun) → names_with script helm ≡ names_with script (option_map (steering_with script) helm)
+    same : (helm : Option HelmRun) → names_with script helm ≡ names_with script (option_map (helm_setup_with script) helm)
     same None = refl
     same (Some run) = refl
 
 -- between two rounds the helm has made as many ticks as there are iterations, and heard as many mails
 pub has_steered : (play : Stage) (w : Bool) → IsPaused play → HasSteeredSoFar (playing_of play w)
-has_steered play w between = at play.steersman between.at_play.under.steered
+has_steered play w between = at play.helm_client between.at_play.under.steered
   where
-    at : (s : Option Steersman) → StandsAt play.lock.base (helm_number play.script.now) s play.first.seat.seen
+    at : (s : Option HelmClient) → StandsAt play.lock.base (helm_number play.script.now) s play.first.seat.seen
         → IfSome (helm_of s) (λ helm. HasTicked play.lock.base helm (length (iterations_by play.lock.base play.first.seat.seen (helm_of s) (ticks_in s))) play.first.seat.seen)
     at None stands = tt
     at (Some s) stands =
         let many = made_many play.lock.base play.first.seat.seen (Some s) in
-        subst (λ n. HasTicked play.lock.base (steering_of s) n play.first.seat.seen) (sym many) (record {
+        subst (λ n. HasTicked play.lock.base (helm_setup_of s) n play.first.seat.seen) (sym many) (record {
           own = stands.1.own;
           many = stands.1.many;
         })
 
 -- the helm, where there is one, is run for the script
-pub runs_for : (play : Stage) (w : Bool) → IsPaused play → IfSome (helm_of play.steersman) (IsRunFor play.script.now (length (iterations_made (playing_of play w))))
-runs_for play w ready = at play.steersman ready.at_play.under.steered ready.at_play.period
+pub runs_for : (play : Stage) (w : Bool) → IsPaused play → IfSome (helm_of play.helm_client) (IsRunFor play.script.now (length (iterations_made (playing_of play w))))
+runs_for play w ready = at play.helm_client ready.at_play.under.steered ready.at_play.period
   where
-    at : (s : Option Steersman) → StandsAt play.lock.base (helm_number play.script.now) s play.first.seat.seen → IfSome s (λ helm. (1 ≤ helm.period) × (helm.ticks ≤ ticks_to play.script.now.stop (steering_of helm)))
+    at : (s : Option HelmClient) → StandsAt play.lock.base (helm_number play.script.now) s play.first.seat.seen → IfSome s (λ helm. (1 ≤ helm.period) × (helm.ticks ≤ ticks_to play.script.now.stop (helm_setup_of helm)))
         → IfSome (helm_of s) (IsRunFor play.script.now (length (iterations_by play.lock.base play.first.seat.seen (helm_of s) (ticks_in s))))
     at None stands period = tt
     at (Some s) stands period = record { client = stands.0; period = period.0; few = omega (arith, made_many play.lock.base play.first.seat.seen (Some s), period.1) }

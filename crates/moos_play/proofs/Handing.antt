@@ -11,12 +11,12 @@ use Rattle.helm_core.specs.Ticks.{Tick}
 use Rattle.moos_client.specs.Calls.{SeatState}
 use Rattle.moos_post.specs.History.{History}
 use Rattle.moos_play.specs.declared.stage.Stage.{Stage}
-use Rattle.moos_play.specs.declared.steersman.Steersman.{Steersman}
+use Rattle.moos_play.specs.declared.helm_client.HelmClient.{HelmClient}
 use Rattle.moos_client.specs.Hearing.{heard_in}
-use Rattle.moos_play.specs.Lawful.{heard_of, helm_number, iterations, iterations_of, mailed_in, Steering, ticks_to}
+use Rattle.moos_play.specs.Lawful.{heard_of, helm_number, iterations, iterations_of, mailed_in, HelmSetup, ticks_to}
 use Rattle.moos_play.specs.Plays.{GoesOnWith, iterations_by, iterations_made, Playing}
 use Rattle.moos_play.specs.Runs.{handed, IsAtPlay, IsPaused, KeepsSeats, shown_by}
-use Rattle.moos_play.specs.Steered.{helm_of, IsUnderWay, iterations_in, KeepsEach, steering_of, Steers, ticks_in}
+use Rattle.moos_play.specs.Steered.{helm_of, IsUnderWay, iterations_in, KeepsEach, helm_setup_of, Steers, ticks_in}
 use Rattle.moos_play.proofs.Standing.{HasHeard, StandsAt}
 use Rattle.moos_step.specs.Steps.{CommunityLock}
 use Rattle.moos_client.proofs.Hearing.{heard_append}
@@ -47,11 +47,11 @@ iterations_before names plan client n m history rest below many =
     ∙ iterations_stay plan (heard_of names client history) (heard_in (mailed_in names) client history rest) n (omega (arith, many))
 
 -- the iterations over a history that goes on: those before, and those behind them
-told_on : (names : List (List ℕ)) (s t : Steersman) (history rest : History) → steering_of t ≡ steering_of s → s.iterations ≡ [] → KeepsEach (Some s) (Some t) → Steers names s history → Steers names t (history ++ rest)
+told_on : (names : List (List ℕ)) (s t : HelmClient) (history rest : History) → helm_setup_of t ≡ helm_setup_of s → s.iterations ≡ [] → KeepsEach (Some s) (Some t) → Steers names s history → Steers names t (history ++ rest)
     → iterations_by names (history ++ rest) (helm_of (Some t)) (ticks_in (Some t)) ≡ iterations_by names history (helm_of (Some s)) (ticks_in (Some s)) ++ t.iterations
 told_on names s t history rest same none kept before after =
     let done = iterations_of (plan_of s.helm) (heard_of names s.number (history ++ rest)) t.ticks in
-    let is : iterations_of (plan_of t.helm) (heard_of names t.number (history ++ rest)) t.ticks ≡ done = ap (λ (helm : Steering). iterations_of helm.plan (heard_of names helm.client (history ++ rest)) t.ticks) same in
+    let is : iterations_of (plan_of t.helm) (heard_of names t.number (history ++ rest)) t.ticks ≡ done = ap (λ (helm : HelmSetup). iterations_of helm.plan (heard_of names helm.client (history ++ rest)) t.ticks) same in
     let told : ℕ = t.ticks - length t.iterations in
     let count : told ≡ s.ticks = omega (arith, kept, ap length none) in
     let front : take told done ≡ iterations_of (plan_of s.helm) (heard_of names s.number history) s.ticks =
@@ -60,7 +60,7 @@ told_on names s t history rest same none kept before after =
     ∙ ap (λ last. iterations_of (plan_of s.helm) (heard_of names s.number history) s.ticks ++ last) (ap (drop told) (sym is) ∙ sym after.same)
 
 -- the same of a run with a helm or without
-pub made_on : (names : List (List ℕ)) (number : ℕ) (before after : Option Steersman) (history later rest : History) → later ≡ history ++ rest → helm_of after ≡ helm_of before → iterations_in before ≡ [] → KeepsEach before after
+pub made_on : (names : List (List ℕ)) (number : ℕ) (before after : Option HelmClient) (history later rest : History) → later ≡ history ++ rest → helm_of after ≡ helm_of before → iterations_in before ≡ [] → KeepsEach before after
     → StandsAt names number before history → StandsAt names number after later → iterations_by names later (helm_of after) (ticks_in after) ≡ iterations_by names history (helm_of before) (ticks_in before) ++ iterations_in after
 made_on names number None None history later rest is same told kept stood stands = refl
 made_on names number None (Some t) history later rest is same told kept stood stands = absurd cc
@@ -70,10 +70,10 @@ made_on names number (Some s) (Some t) history later rest is same told kept stoo
     (told_on names s t history rest (cc) told kept stood.1 (subst (Steers names t) is stands.1))
 
 -- the helm once its iterations so far are handed out
-abbrev pub handed_of : Steersman → Steersman
+abbrev pub handed_of : HelmClient → HelmClient
 handed_of helm = record helm { iterations = [] }
 
-handed_steers : (names : List (List ℕ)) (s : Steersman) (history : History) → Steers names s history → Steers names (handed_of s) history
+handed_steers : (names : List (List ℕ)) (s : HelmClient) (history : History) → Steers names s history → Steers names (handed_of s) history
 handed_steers names s history so = record {
   clock = so.clock;
   stands = so.stands;
@@ -82,8 +82,8 @@ handed_steers names s history so = record {
   same = sym (drop_all (s.ticks - 0) (iterations_of (plan_of s.helm) (heard_of names s.number history) s.ticks) (omega (arith, iterations_many (plan_of s.helm) (heard_of names s.number history) s.ticks)));
 }
 
-handed_under : (order : Order) (script : Script) (lock : CommunityLock) (steersman : Option Steersman) (from : ℕ) (first : SeatState) → IsUnderWay order script lock steersman from first
-    → IsUnderWay order script lock (option_map handed_of steersman) from first
+handed_under : (order : Order) (script : Script) (lock : CommunityLock) (helm_client : Option HelmClient) (from : ℕ) (first : SeatState) → IsUnderWay order script lock helm_client from first
+    → IsUnderWay order script lock (option_map handed_of helm_client) from first
 handed_under order script lock None from first under = under
 handed_under order script lock (Some s) from first under = record {
   gathered = under.gathered;
@@ -99,27 +99,27 @@ pub handed_between : (play : Stage) → IsAtPlay play → IsPaused (handed play)
 handed_between play at = record {
   at_play = record {
     valid = at.valid;
-    under = handed_under play.order play.script.now play.lock play.steersman play.from play.first.seat at.under;
+    under = handed_under play.order play.script.now play.lock play.helm_client play.from play.first.seat at.under;
     calls = at.calls;
-    period = period play.steersman at.period;
+    period = period play.helm_client at.period;
   };
-  told = told play.steersman;
+  told = told play.helm_client;
 }
   where
-    period : (s : Option Steersman) → IfSome s (λ helm. (1 ≤ helm.period) × (helm.ticks ≤ ticks_to play.script.now.stop (steering_of helm)))
-        → IfSome (option_map handed_of s) (λ helm. (1 ≤ helm.period) × (helm.ticks ≤ ticks_to play.script.now.stop (steering_of helm)))
+    period : (s : Option HelmClient) → IfSome s (λ helm. (1 ≤ helm.period) × (helm.ticks ≤ ticks_to play.script.now.stop (helm_setup_of helm)))
+        → IfSome (option_map handed_of s) (λ helm. (1 ≤ helm.period) × (helm.ticks ≤ ticks_to play.script.now.stop (helm_setup_of helm)))
     period None so = tt
     period (Some s) so = so
 
-    told : (s : Option Steersman) → iterations_in (option_map handed_of s) ≡ []
+    told : (s : Option HelmClient) → iterations_in (option_map handed_of s) ≡ []
     told None = refl
     told (Some s) = refl
 
 -- and it shows what it showed
 pub last_shown : (play last : Stage) → last ≡ handed play → shown_by play ≡ shown_by last
-last_shown play last is = sym (ap shown_by is ∙ by play.steersman)
+last_shown play last is = sym (ap shown_by is ∙ by play.helm_client)
   where
-    by : (s : Option Steersman) → shown_by (record play { steersman = option_map handed_of s }) ≡ shown_by (record play { steersman = s })
+    by : (s : Option HelmClient) → shown_by (record play { helm_client = option_map handed_of s }) ≡ shown_by (record play { helm_client = s })
     by None = refl
     by (Some s) = refl
 
@@ -140,22 +140,22 @@ goes_on_twice before middle after one other = record {
 }
 
 -- the iterations of a round follow those before
-pub round_iterations : (before after : Stage) → IsPaused before → IsAtPlay after → KeepsSeats before after → GoesOnWith (shown_by before) (shown_by after) → KeepsEach before.steersman after.steersman
-    → iterations_made (shown_by after) ≡ iterations_made (shown_by before) ++ iterations_in after.steersman
+pub round_iterations : (before after : Stage) → IsPaused before → IsAtPlay after → KeepsSeats before after → GoesOnWith (shown_by before) (shown_by after) → KeepsEach before.helm_client after.helm_client
+    → iterations_made (shown_by after) ≡ iterations_made (shown_by before) ++ iterations_in after.helm_client
 round_iterations before after between at stays on kept =
-    ap (λ names. iterations_by names after.first.seat.seen (helm_of after.steersman) (ticks_in after.steersman)) on.names
-    ∙ made_on before.lock.base (helm_number before.script.now) before.steersman after.steersman before.first.seat.seen after.first.seat.seen stays.later.0 stays.later.1 on.helm between.told kept
+    ap (λ names. iterations_by names after.first.seat.seen (helm_of after.helm_client) (ticks_in after.helm_client)) on.names
+    ∙ made_on before.lock.base (helm_number before.script.now) before.helm_client after.helm_client before.first.seat.seen after.first.seat.seen stays.later.0 stays.later.1 on.helm between.told kept
     between.at_play.under.steered
-    (subst (λ (script : Script). StandsAt before.lock.base (helm_number script) after.steersman after.first.seat.seen) on.script
-    (subst (λ names. StandsAt names (helm_number after.script.now) after.steersman after.first.seat.seen) on.names at.under.steered))
+    (subst (λ (script : Script). StandsAt before.lock.base (helm_number script) after.helm_client after.first.seat.seen) on.script
+    (subst (λ names. StandsAt names (helm_number after.script.now) after.helm_client after.first.seat.seen) on.names at.under.steered))
 
 -- the iterations of a history that goes on begin with those so far
-pub iterations_more : (names : List (List ℕ)) (number stop : ℕ) (steersman : Option Steersman) (history rest : History) → HasHeard names number stop steersman history
-    → (more : List Iteration) × (iterations (helm_of steersman) stop (heard_of names number (history ++ rest)) ≡ iterations_by names history (helm_of steersman) (ticks_in steersman) ++ more)
+pub iterations_more : (names : List (List ℕ)) (number stop : ℕ) (helm_client : Option HelmClient) (history rest : History) → HasHeard names number stop helm_client history
+    → (more : List Iteration) × (iterations (helm_of helm_client) stop (heard_of names number (history ++ rest)) ≡ iterations_by names history (helm_of helm_client) (ticks_in helm_client) ++ more)
 iterations_more names number stop None history rest heard = ([], refl)
 iterations_more names number stop (Some s) history rest heard =
-    let all = iterations_of (plan_of s.helm) (heard_of names s.number (history ++ rest)) (ticks_to stop (steering_of s)) in (
+    let all = iterations_of (plan_of s.helm) (heard_of names s.number (history ++ rest)) (ticks_to stop (helm_setup_of s)) in (
       drop s.ticks all,
-      ap (λ n. iterations_of (plan_of s.helm) (heard_of names n (history ++ rest)) (ticks_to stop (steering_of s))) (sym heard.0) ∙ sym (take-append-drop s.ticks all)
-          ∙ ap (λ front. front ++ drop s.ticks all) (iterations_before names (plan_of s.helm) s.number s.ticks (ticks_to stop (steering_of s)) history rest heard.2 heard.1),
+      ap (λ n. iterations_of (plan_of s.helm) (heard_of names n (history ++ rest)) (ticks_to stop (helm_setup_of s))) (sym heard.0) ∙ sym (take-append-drop s.ticks all)
+          ∙ ap (λ front. front ++ drop s.ticks all) (iterations_before names (plan_of s.helm) s.number s.ticks (ticks_to stop (helm_setup_of s)) history rest heard.2 heard.1),
     )

@@ -7,7 +7,7 @@ use Rattle.helm_core.specs.Plans.{Plan}
 use Rattle.helm_core.specs.Ticks.{Tick}
 use Rattle.moos_client.specs.Calls.{entry_of}
 use Rattle.moos_post.specs.declared.entry.Call.TheVariants.{Post as Posts, Fetch}
-use Rattle.moos_play.specs.Lawful.{iterations_of, Steering, tick_entries, ticks_of}
+use Rattle.moos_play.specs.Lawful.{iterations_of, HelmSetup, tick_entries, ticks_of}
 
 -- there is an iteration a tick
 pub iterations_many : (plan : Plan) (heard : List Tick) (n : ℕ) → length (iterations_of plan heard n) ≡ n
@@ -15,7 +15,7 @@ iterations_many plan heard zero = refl
 iterations_many plan heard (suc n) = length-append (iterations_of plan heard n) (iteration_at plan heard n ∷ []) ∙ omega (arith, iterations_many plan heard n)
 
 -- the first ticks don't depend on what is heard later
-pub ticks_stay : (helm : Steering) (heard more : List Tick) (n : ℕ) → n ≤ length heard → ticks_of helm (heard ++ more) n ≡ ticks_of helm heard n
+pub ticks_stay : (helm : HelmSetup) (heard more : List Tick) (n : ℕ) → n ≤ length heard → ticks_of helm (heard ++ more) n ≡ ticks_of helm heard n
 ticks_stay helm heard more zero l = refl
 ticks_stay helm heard more (suc n) l =
     ap (λ front. front ++ tick_entries helm (heard ++ more) n) (ticks_stay helm heard more n (omega (arith, l)))

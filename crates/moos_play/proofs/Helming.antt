@@ -1,4 +1,4 @@
--- The steersman's tick, from the calls that its seat made.
+-- The helm's tick, from the calls that its seat made.
 use Rattle.std.proofs.Common.{◌≡◌, ℕ, suc, ◌*◌, ◌+◌, List, [], ◌∷◌, ◌++◌, sym, ap, ◌∙◌, subst, arith}
 use Rattle.helm_core.specs.declared.helm.Helm.{Helm}
 use Rattle.helm_core.specs.declared.iteration.Iteration.{Iteration}
@@ -9,7 +9,7 @@ use Rattle.moos_db.specs.Database.{letters_after}
 use Rattle.moos_post.specs.declared.entry.Call.{Call}
 use Rattle.moos_post.specs.declared.entry.Call.TheVariants.{Post as Posts, Fetch}
 use Rattle.moos_post.specs.declared.value.Pair.{Pair}
-use Rattle.moos_play.specs.declared.steersman.Steersman.{Steersman}
+use Rattle.moos_play.specs.declared.helm_client.HelmClient.{HelmClient}
 use Rattle.moos_play.specs.Steered.{HasOwn, Steers}
 use Rattle.moos_client.proofs.Hearing.{IsNext}
 use Rattle.moos_play.proofs.Steering.{called_next, called_of, called_own, mail_heard, ticked_on}
@@ -29,16 +29,16 @@ fetch_next client seat after names stamp mail is own fetched =
 number_on : (seat after : SeatState) (stamp : ℕ) (call : Call) → IsCalled seat after stamp call → after.number ≡ seat.number
 number_on seat after stamp call called = ap (λ s. s.number) called.after
 
--- a tick, with the steersman before its first call and before its last
-pub ticks_once : (names : List (List ℕ)) (s t u : Steersman) (helm : Helm) (seat between after : SeatState) (stamp : ℕ) (mail : List Letter) (iteration : Iteration) (posts : List Pair) (done : List Iteration)
+-- a tick, with the helm's client before its first call and before its last
+pub ticks_once : (names : List (List ℕ)) (s t u : HelmClient) (helm : Helm) (seat between after : SeatState) (stamp : ℕ) (mail : List Letter) (iteration : Iteration) (posts : List Pair) (done : List Iteration)
     → t ≡ record s { calls = t.calls } → u ≡ record t { helm = helm; calls = u.calls } → done ≡ u.iterations ++ iteration ∷ [] → stamp ≡ s.ticks * s.period → Steers names s seat.seen → seat.number ≡ s.number → HasOwn seat
     → IsFetched seat between names stamp mail → IsTicked t.helm helm stamp mail iteration → IsCalled between after stamp (Posts posts) → posts ≡ iteration.posts → Steers names (record u { ticks = u.ticks + 1; iterations = done }) after.seen
 ticks_once names s t u helm seat between after stamp mail iteration posts done counted is done_is stamp_is so number own fetched ticked posted posts_is =
     subst (λ done. Steers names (record u { ticks = u.ticks + 1; iterations = done }) after.seen) (sym done_is)
-    (subst (λ (u : Steersman). Steers names (record u { ticks = u.ticks + 1; iterations = u.iterations ++ iteration ∷ [] }) after.seen) (sym (is ∙ ap (λ (t : Steersman). record t { helm = helm; calls = u.calls }) counted))
+    (subst (λ (u : HelmClient). Steers names (record u { ticks = u.ticks + 1; iterations = u.iterations ++ iteration ∷ [] }) after.seen) (sym (is ∙ ap (λ (t : HelmClient). record t { helm = helm; calls = u.calls }) counted))
     (subst (λ n. Steers names (record s { helm = helm; calls = u.calls; ticks = n; iterations = s.iterations ++ iteration ∷ [] }) after.seen) count
     (ticked_on names s helm u.calls seat.seen between.seen after.seen mail iteration so first.0 first.1
-    (subst (λ stamp. IsTicked s.helm helm stamp mail iteration) stamp_is (subst (λ (t : Steersman). IsTicked t.helm helm stamp mail iteration) counted ticked)) last)))
+    (subst (λ stamp. IsTicked s.helm helm stamp mail iteration) stamp_is (subst (λ (t : HelmClient). IsTicked t.helm helm stamp mail iteration) counted ticked)) last)))
   where
     count : suc s.ticks ≡ s.ticks + 1
     count = omega arith

@@ -15,12 +15,12 @@ use Rattle.moos_play.proofs.Coming.{behind_late}
 use Rattle.moos_play.proofs.Moving.{least_line, least_tick}
 use Rattle.moos_play.proofs.Stamping.{next_line}
 use Rattle.moos_play.specs.declared.stage.Stage.{Stage}
-use Rattle.moos_play.specs.declared.steersman.Steersman.{Steersman}
+use Rattle.moos_play.specs.declared.helm_client.HelmClient.{HelmClient}
 use Rattle.moos_play.specs.Lawful.{heard_of, ticks_to}
 use Rattle.moos_play.specs.Plays.{earliest, history_in, IsLeft, KeepsLeft, known_clients_in, schedule_in, stamp_next, ticks_behind}
 use Rattle.moos_play.specs.Runs.{IsPaused, playing_of}
 use Rattle.moos_play.specs.Schedules.{answering}
-use Rattle.moos_play.specs.Steered.{helm_of, IsBehind, left_for, parts, steering_of, tick_due, turns_left, ticks_in}
+use Rattle.moos_play.specs.Steered.{helm_of, IsBehind, left_for, parts, helm_setup_of, tick_due, turns_left, ticks_in}
 use Rattle.moos_post.specs.declared.entry.Entry.{Entry}
 use Rattle.moos_post.specs.History.{History}
 use Rattle.script_reader.specs.declared.script.Order.{Order}
@@ -63,10 +63,10 @@ turns_late answerer n period heard i (suc count) s less =
     (and_from (nat_le s (i * period)) (list_all (λ entry. nat_le s entry.stamp) (turns_from answerer n period heard (suc i) count)) here rest)
 
 -- the next stamp in order Stamp
-abbrev stamp_at : Script → ℕ → Option Steersman → ℕ
+abbrev stamp_at : Script → ℕ → Option HelmClient → ℕ
 stamp_at script from s = earliest script.stop (tick_due script.stop s) (option_map (λ (line : Entry). line.stamp) (slice_get script.lines from))
 
-helm_late : (script : Script) (names : List (List ℕ)) (from : ℕ) (s : Option Steersman) (history : History) → list_all (λ entry. nat_le (stamp_at script from s) entry.stamp) (turns_left script.stop s names history) ≡ true
+helm_late : (script : Script) (names : List (List ℕ)) (from : ℕ) (s : Option HelmClient) (history : History) → list_all (λ entry. nat_le (stamp_at script from s) entry.stamp) (turns_left script.stop s names history) ≡ true
 helm_late script names from None history = refl
 helm_late script names from (Some s) history = by (nat_le s.ticks (script.stop / s.period)) refl
   where
@@ -77,13 +77,13 @@ helm_late script names from (Some s) history = by (nat_le s.ticks (script.stop /
     line = option_map (λ (line : Entry). line.stamp) (slice_get script.lines from)
 
     by : (b : Bool) → nat_le s.ticks (script.stop / s.period) ≡ b
-        → list_all (λ entry. nat_le (earliest script.stop (cond b (Some (s.ticks * s.period)) None) line) entry.stamp) (turns_from (answering (steering_of s)) s.number s.period heard s.ticks (ticks_to script.stop (steering_of s) - s.ticks)) ≡ true
-    by true e = turns_late (answering (steering_of s)) s.number s.period heard s.ticks (ticks_to script.stop (steering_of s) - s.ticks) (earliest script.stop (Some (s.ticks * s.period)) line) (least_tick script.stop (s.ticks * s.period) line)
+        → list_all (λ entry. nat_le (earliest script.stop (cond b (Some (s.ticks * s.period)) None) line) entry.stamp) (turns_from (answering (helm_setup_of s)) s.number s.period heard s.ticks (ticks_to script.stop (helm_setup_of s) - s.ticks)) ≡ true
+    by true e = turns_late (answering (helm_setup_of s)) s.number s.period heard s.ticks (ticks_to script.stop (helm_setup_of s) - s.ticks) (earliest script.stop (Some (s.ticks * s.period)) line) (least_tick script.stop (s.ticks * s.period) line)
     by false e =
-        let over : ticks_to script.stop (steering_of s) - s.ticks ≡ 0 = grind (arith, nat_tests, e) in
-        ap (λ count. list_all (λ (entry : Entry). nat_le (earliest script.stop None line) entry.stamp) (turns_from (answering (steering_of s)) s.number s.period heard s.ticks count)) over
+        let over : ticks_to script.stop (helm_setup_of s) - s.ticks ≡ 0 = grind (arith, nat_tests, e) in
+        ap (λ count. list_all (λ (entry : Entry). nat_le (earliest script.stop None line) entry.stamp) (turns_from (answering (helm_setup_of s)) s.number s.period heard s.ticks count)) over
 
-all_late : (script : Script) (names : List (List ℕ)) (from : ℕ) (s : Option Steersman) (history : History) (n : ℕ) → are_lines (length script.names) 0 script.stop script.lines ≡ true
+all_late : (script : Script) (names : List (List ℕ)) (from : ℕ) (s : Option HelmClient) (history : History) (n : ℕ) → are_lines (length script.names) 0 script.stop script.lines ≡ true
     → list_all (λ entry. nat_le (stamp_at script from s) entry.stamp) (left_for script s names from history n) ≡ true
 all_late script names from s history n valid = by (nat_lt n (length script.names))
   where
@@ -96,7 +96,7 @@ all_late script names from s history n valid = by (nat_lt n (length script.names
     by false = helm_late script names from s history
 
 -- where nothing is left of a run nothing is left for a client
-none_left : (script : Script) (names : List (List ℕ)) (from : ℕ) (s : Option Steersman) (history : History) (n : ℕ) → length script.lines - from + ticks_behind script.stop (helm_of s) (ticks_in s) ≡ 0 → left_for script s names from history n ≡ []
+none_left : (script : Script) (names : List (List ℕ)) (from : ℕ) (s : Option HelmClient) (history : History) (n : ℕ) → length script.lines - from + ticks_behind script.stop (helm_of s) (ticks_in s) ≡ 0 → left_for script s names from history n ≡ []
 none_left script names from s history n none = by (nat_lt n (length script.names))
   where
     empty : (left : List Entry) → length left ≡ 0 → left ≡ []
@@ -106,9 +106,9 @@ none_left script names from s history n none = by (nat_lt n (length script.names
     lines : drop from script.lines ≡ []
     lines = empty (drop from script.lines) (omega (arith, length-drop from script.lines, none))
 
-    turns : (s : Option Steersman) → ticks_behind script.stop (helm_of s) (ticks_in s) ≡ 0 → turns_left script.stop s names history ≡ []
+    turns : (s : Option HelmClient) → ticks_behind script.stop (helm_of s) (ticks_in s) ≡ 0 → turns_left script.stop s names history ≡ []
     turns None over = refl
-    turns (Some s) over = ap (turns_from (answering (steering_of s)) s.number s.period (heard_of names s.number history) s.ticks) over
+    turns (Some s) over = ap (turns_from (answering (helm_setup_of s)) s.number s.period (heard_of names s.number history) s.ticks) over
 
     by : (b : Bool) → cond b (entries_of n (drop from script.lines)) (turns_left script.stop s names history) ≡ []
     by true = ap (entries_of n) lines
@@ -117,22 +117,22 @@ none_left script names from s history n none = by (nat_lt n (length script.names
 -- WHAT IS LEFT FOR A CLIENT of a run between two rounds
 pub is_left : (play : Stage) (whole : Bool) → IsPaused play → (so : IsLawfulSoFar (schedule_in (playing_of play whole)) (history_in (playing_of play whole))) (n : ℕ) → n < known_clients_in (playing_of play whole) → IsLeft (playing_of play whole) (so.left n)
 is_left play whole between so n below = record {
-  none = λ none. same ∙ none_left play.script.now play.lock.base play.from play.steersman play.first.seat.seen n none;
+  none = λ none. same ∙ none_left play.script.now play.lock.base play.from play.helm_client play.first.seat.seen n none;
   late = late play.order refl;
 }
   where
-    known : n < parts play.script.now play.steersman
-    known = omega (arith, below, parts_known play.script.now play.steersman)
+    known : n < parts play.script.now play.helm_client
+    known = omega (arith, below, parts_known play.script.now play.helm_client)
 
-    same : so.left n ≡ left_for play.script.now play.steersman play.lock.base play.from play.first.seat.seen n
+    same : so.left n ≡ left_for play.script.now play.helm_client play.lock.base play.from play.first.seat.seen n
     same = left_one (schedule_in (playing_of play whole)) (history_in (playing_of play whole)) so between.at_play.under.played.so_far n known ∙ between.at_play.under.played.left n known
 
     tick : Option ℕ
-    tick = tick_due play.script.now.stop play.steersman
+    tick = tick_due play.script.now.stop play.helm_client
 
     line : Option ℕ
     line = option_map (λ (line : Entry). line.stamp) (slice_get play.script.now.lines play.from)
 
     late : (order : Order) → play.order ≡ order → KeepsLeft order (stamp_next order play.script.now.stop tick line) (so.left n)
     late Race is = tt
-    late Stamp is = subst (λ left. list_all (λ entry. nat_le (earliest play.script.now.stop tick line) entry.stamp) left ≡ true) (sym same) (all_late play.script.now play.lock.base play.from play.steersman play.first.seat.seen n between.at_play.valid.lines)
+    late Stamp is = subst (λ left. list_all (λ entry. nat_le (earliest play.script.now.stop tick line) entry.stamp) left ≡ true) (sym same) (all_late play.script.now play.lock.base play.from play.helm_client play.first.seat.seen n between.at_play.valid.lines)

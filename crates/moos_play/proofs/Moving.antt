@@ -11,11 +11,11 @@ use Rattle.moos_post.specs.declared.entry.Entry.{Entry}
 use Rattle.moos_post.specs.History.{History}
 use Rattle.moos_play.specs.declared.stage.Stage.{Stage}
 use Rattle.moos_play.specs.declared.round_made.Round.{Round}
-use Rattle.moos_play.specs.declared.steersman.Steersman.{Steersman}
-use Rattle.moos_play.specs.Lawful.{heard_of, Steering, ticks_to}
+use Rattle.moos_play.specs.declared.helm_client.HelmClient.{HelmClient}
+use Rattle.moos_play.specs.Lawful.{heard_of, HelmSetup, ticks_to}
 use Rattle.moos_play.specs.Plays.{earliest, GoesOnWith, HasNoTick, HasTick, HasTurn, IsStampOver, iterations_made, left_in, next_stamp, stamp_next, ticks_behind, iterations_by}
 use Rattle.moos_play.specs.Runs.{IsPaused, KeepsMoves, MovesAt, playing_of, shown_by}
-use Rattle.moos_play.specs.Steered.{helm_of, IsBehind, steering_of, tick_due, ticks_in}
+use Rattle.moos_play.specs.Steered.{helm_of, IsBehind, helm_setup_of, tick_due, ticks_in}
 use Rattle.moos_play.proofs.Hearing.{iterations_many}
 use Rattle.moos_play.proofs.Rounding.{due_is}
 use Rattle.moos_play.proofs.Stamping.{tick_stamp}
@@ -95,25 +95,25 @@ least_on stop tick line (Some t) (Some l) ticks lines = inr (by (nat_lt t l))
     by false = below_line l (lines l refl)
 
 -- how the helm is run stays the same: so does its period
-period_same : (before after : Option Steersman) → helm_of after ≡ helm_of before → tick_period (helm_of after) ≡ tick_period (helm_of before)
+period_same : (before after : Option HelmClient) → helm_of after ≡ helm_of before → tick_period (helm_of after) ≡ tick_period (helm_of before)
 period_same None None same = refl
 period_same None (Some t) same = absurd cc
 period_same (Some s) None same = absurd cc
 period_same (Some s) (Some t) same = ap (λ helm. run_period helm) same
   where
-    run_period : Option Steering → ℕ
+    run_period : Option HelmSetup → ℕ
     run_period None = 0
     run_period (Some helm) = helm.period
 
 -- the stamp of a tick that is due
-tick_due_is : (stop : ℕ) (s : Steersman) (y : ℕ) → tick_due stop (Some s) ≡ Some y → (s.ticks ≤ stop / s.period) × (y ≡ s.ticks * s.period)
+tick_due_is : (stop : ℕ) (s : HelmClient) (y : ℕ) → tick_due stop (Some s) ≡ Some y → (s.ticks ≤ stop / s.period) × (y ≡ s.ticks * s.period)
 tick_due_is stop s y is = by (nat_le s.ticks (stop / s.period)) refl is
   where
     by : (b : Bool) → nat_le s.ticks (stop / s.period) ≡ b → cond b (Some (s.ticks * s.period)) None ≡ Some y → (s.ticks ≤ stop / s.period) × (y ≡ s.ticks * s.period)
     by true e h = (grind (arith, nat_tests), sym (cc))
     by false e h = absurd cc
 
-is_tick_due : (stop : ℕ) (s : Steersman) → s.ticks ≤ stop / s.period → tick_due stop (Some s) ≡ Some (s.ticks * s.period)
+is_tick_due : (stop : ℕ) (s : HelmClient) → s.ticks ≤ stop / s.period → tick_due stop (Some s) ≡ Some (s.ticks * s.period)
 is_tick_due stop s less = by (nat_le s.ticks (stop / s.period)) refl
   where
     by : (b : Bool) → nat_le s.ticks (stop / s.period) ≡ b → cond b (Some (s.ticks * s.period)) None ≡ Some (s.ticks * s.period)
@@ -121,7 +121,7 @@ is_tick_due stop s less = by (nat_le s.ticks (stop / s.period)) refl
     by false e = absurd (grind (arith, nat_tests, less))
 
 -- no tick is taken back either
-ticks_on : (stop : ℕ) (before after : Option Steersman) → helm_of after ≡ helm_of before → ticks_in before ≤ ticks_in after → (y : ℕ) → tick_due stop after ≡ Some y → (x : ℕ) × (tick_due stop before ≡ Some x) × (x ≤ y)
+ticks_on : (stop : ℕ) (before after : Option HelmClient) → helm_of after ≡ helm_of before → ticks_in before ≤ ticks_in after → (y : ℕ) → tick_due stop after ≡ Some y → (x : ℕ) × (tick_due stop before ≡ Some x) × (x ≤ y)
 ticks_on stop before None same less y is = absurd cc
 ticks_on stop None (Some t) same less y is = absurd cc
 ticks_on stop (Some s) (Some t) same less y is =
@@ -140,14 +140,14 @@ past (x ∷ xs) zero is = absurd cc
 past (x ∷ xs) (suc i) is = omega (arith, past xs i is)
 
 -- where neither a tick nor a line is next nothing is left
-none_next : (script : Script) (from : ℕ) (s : Option Steersman) → tick_due script.stop s ≡ None → option_map (λ (line : Entry). line.stamp) (slice_get script.lines from) ≡ None → length script.lines - from + ticks_behind script.stop (helm_of s) (ticks_in s) ≡ 0
+none_next : (script : Script) (from : ℕ) (s : Option HelmClient) → tick_due script.stop s ≡ None → option_map (λ (line : Entry). line.stamp) (slice_get script.lines from) ≡ None → length script.lines - from + ticks_behind script.stop (helm_of s) (ticks_in s) ≡ 0
 none_next script from s tick line = omega (arith, lines (slice_get script.lines from) refl line, ticks s tick)
   where
     lines : (next : Option Entry) → slice_get script.lines from ≡ next → option_map (λ (line : Entry). line.stamp) next ≡ None → length script.lines - from ≡ 0
     lines None is none = past script.lines from is
     lines (Some l) is none = absurd cc
 
-    ticks : (s : Option Steersman) → tick_due script.stop s ≡ None → ticks_behind script.stop (helm_of s) (ticks_in s) ≡ 0
+    ticks : (s : Option HelmClient) → tick_due script.stop s ≡ None → ticks_behind script.stop (helm_of s) (ticks_in s) ≡ 0
     ticks None none = refl
     ticks (Some t) none = by (nat_le t.ticks (script.stop / t.period)) refl none
       where
@@ -160,23 +160,23 @@ pub stamps_on : (before after : Stage) (stamp : ℕ) → are_lines (length befor
     → (left_in (shown_by after) ≡ 0) ⊎ (next_stamp (shown_by before) ≤ next_stamp (shown_by after))
 stamps_on before after stamp valid on moves order =
     subst (λ script. (left script ≡ 0) ⊎ (next_stamp (shown_by before) ≤ next script)) (sym on.script)
-    (by (least_on script.stop tick line tick' line' (ticks_on script.stop before.steersman after.steersman on.helm (more moves.ticks)) lines))
+    (by (least_on script.stop tick line tick' line' (ticks_on script.stop before.helm_client after.helm_client on.helm (more moves.ticks)) lines))
   where
     script : Script
     script = before.script.now
 
     -- by the script that both play
     left : Script → ℕ
-    left script = length script.lines - after.from + ticks_behind script.stop (helm_of after.steersman) (ticks_in after.steersman)
+    left script = length script.lines - after.from + ticks_behind script.stop (helm_of after.helm_client) (ticks_in after.helm_client)
 
     next : Script → ℕ
-    next script = stamp_next after.order script.stop (tick_due script.stop after.steersman) (option_map (λ (line : Entry). line.stamp) (slice_get script.lines after.from))
+    next script = stamp_next after.order script.stop (tick_due script.stop after.helm_client) (option_map (λ (line : Entry). line.stamp) (slice_get script.lines after.from))
 
     tick : Option ℕ
-    tick = tick_due script.stop before.steersman
+    tick = tick_due script.stop before.helm_client
 
     tick' : Option ℕ
-    tick' = tick_due script.stop after.steersman
+    tick' = tick_due script.stop after.helm_client
 
     line : Option ℕ
     line = option_map (λ (line : Entry). line.stamp) (slice_get script.lines before.from)
@@ -184,7 +184,7 @@ stamps_on before after stamp valid on moves order =
     line' : Option ℕ
     line' = option_map (λ (line : Entry). line.stamp) (slice_get script.lines after.from)
 
-    more : (ticks_in after.steersman ≡ ticks_in before.steersman) ⊎ ((ticks_in after.steersman ≡ suc (ticks_in before.steersman)) × (stamp ≡ ticks_in before.steersman * tick_period (helm_of before.steersman))) → ticks_in before.steersman ≤ ticks_in after.steersman
+    more : (ticks_in after.helm_client ≡ ticks_in before.helm_client) ⊎ ((ticks_in after.helm_client ≡ suc (ticks_in before.helm_client)) × (stamp ≡ ticks_in before.helm_client * tick_period (helm_of before.helm_client))) → ticks_in before.helm_client ≤ ticks_in after.helm_client
     more (inl same) = omega (arith, same)
     more (inr next) = omega (arith, next.0)
 
@@ -199,7 +199,7 @@ stamps_on before after stamp valid on moves order =
             (first.0.stamp, ap (option_map (λ (line : Entry). line.stamp)) first.1, omega (arith, first.2, same))
 
     by : ((tick' ≡ None) × (line' ≡ None)) ⊎ (earliest script.stop tick line ≤ earliest script.stop tick' line') → (left script ≡ 0) ⊎ (next_stamp (shown_by before) ≤ next script)
-    by (inl none) = inl (none_next script after.from after.steersman none.0 none.1)
+    by (inl none) = inl (none_next script after.from after.helm_client none.0 none.1)
     by (inr less) = inr (subst (λ order. stamp_next order script.stop tick line ≤ stamp_next after.order script.stop tick' line') (sym order)
         (subst (λ order. earliest script.stop tick line ≤ stamp_next order script.stop tick' line') (sym (on.order ∙ order)) less))
 
@@ -211,7 +211,7 @@ moves_none Stamp stamp play = record { lines = omega arith; ticks = inl refl }
 moves_none Race stamp play = tt
 
 -- lines alone
-pub moves_lines : (order : Order) (stamp : ℕ) (before after : Stage) → before.from ≤ after.from → after.steersman ≡ before.steersman → KeepsMoves order stamp before after
+pub moves_lines : (order : Order) (stamp : ℕ) (before after : Stage) → before.from ≤ after.from → after.helm_client ≡ before.helm_client → KeepsMoves order stamp before after
 moves_lines Stamp stamp before after less same = record { lines = less; ticks = inl (ap ticks_in same) }
 moves_lines Race stamp before after less same = tt
 
@@ -221,21 +221,21 @@ moves_race Stamp stamp before after race = absurd cc
 moves_race Race stamp before after race = tt
 
 -- a tick that is due
-pub moves_tick : (play after : Stage) (old new : Steersman) (result : Result (Unit {0}) AllocError) → play.steersman ≡ Some old → after.steersman ≡ Some new → after.from ≡ play.from → tick_due play.script.now.stop play.steersman ≢ None → IsBehind (tick_due play.script.now.stop play.steersman) (drop play.from play.script.now.lines)
+pub moves_tick : (play after : Stage) (old new : HelmClient) (result : Result (Unit {0}) AllocError) → play.helm_client ≡ Some old → after.helm_client ≡ Some new → after.from ≡ play.from → tick_due play.script.now.stop play.helm_client ≢ None → IsBehind (tick_due play.script.now.stop play.helm_client) (drop play.from play.script.now.lines)
     → OnOk result (new.ticks ≡ old.ticks + 1) → OnOk result (KeepsMoves play.order (next_stamp (shown_by play)) play after)
 moves_tick play after old new (Err _) is is' from due behind reached = tt
 moves_tick play after old new (Ok _) is is' from due behind reached = by play.order
   where
-    tick : tick_due play.script.now.stop play.steersman ≡ Some (old.ticks * old.period)
-    tick = ap (tick_due play.script.now.stop) is ∙ due_is play.script.now.stop old (subst (λ (s : Option Steersman). tick_due play.script.now.stop s ≢ None) is due)
+    tick : tick_due play.script.now.stop play.helm_client ≡ Some (old.ticks * old.period)
+    tick = ap (tick_due play.script.now.stop) is ∙ due_is play.script.now.stop old (subst (λ (s : Option HelmClient). tick_due play.script.now.stop s ≢ None) is due)
 
     line : Option ℕ
     line = option_map (λ (line : Entry). line.stamp) (slice_get play.script.now.lines play.from)
 
-    stamp : earliest play.script.now.stop (tick_due play.script.now.stop play.steersman) line ≡ old.ticks * old.period
+    stamp : earliest play.script.now.stop (tick_due play.script.now.stop play.helm_client) line ≡ old.ticks * old.period
     stamp = ap (λ tick. earliest play.script.now.stop tick line) tick ∙ tick_stamp play.script.now.lines (old.ticks * old.period) play.script.now.stop play.from (subst (λ tick. IsBehind tick (drop play.from play.script.now.lines)) tick behind)
 
-    by : (order : Order) → KeepsMoves order (stamp_next order play.script.now.stop (tick_due play.script.now.stop play.steersman) line) play after
+    by : (order : Order) → KeepsMoves order (stamp_next order play.script.now.stop (tick_due play.script.now.stop play.helm_client) line) play after
     by Stamp = record {
       lines = omega (arith, from);
       ticks = inr (
@@ -246,17 +246,17 @@ moves_tick play after old new (Ok _) is is' from due behind reached = by play.or
     by Race = tt
 
 -- one part behind another
-pub moves_twice : (order : Order) (stamp : ℕ) (before middle after : Stage) → GoesOnWith (shown_by before) (shown_by middle) → IfSome before.steersman (λ helm. 1 ≤ helm.period) → KeepsMoves order stamp before middle → KeepsMoves order stamp middle after → KeepsMoves order stamp before after
+pub moves_twice : (order : Order) (stamp : ℕ) (before middle after : Stage) → GoesOnWith (shown_by before) (shown_by middle) → IfSome before.helm_client (λ helm. 1 ≤ helm.period) → KeepsMoves order stamp before middle → KeepsMoves order stamp middle after → KeepsMoves order stamp before after
 moves_twice Race stamp before middle after on period one other = tt
 moves_twice Stamp stamp before middle after on period one other = record { lines = omega (arith, one.lines, other.lines); ticks = by one.ticks other.ticks }
   where
-    same : tick_period (helm_of middle.steersman) ≡ tick_period (helm_of before.steersman)
-    same = period_same before.steersman middle.steersman on.helm
+    same : tick_period (helm_of middle.helm_client) ≡ tick_period (helm_of before.helm_client)
+    same = period_same before.helm_client middle.helm_client on.helm
 
-    some : 1 ≤ tick_period (helm_of before.steersman)
-    some = at before.steersman period
+    some : 1 ≤ tick_period (helm_of before.helm_client)
+    some = at before.helm_client period
       where
-        at : (s : Option Steersman) → IfSome s (λ helm. 1 ≤ helm.period) → 1 ≤ tick_period (helm_of s)
+        at : (s : Option HelmClient) → IfSome s (λ helm. 1 ≤ helm.period) → 1 ≤ tick_period (helm_of s)
         at None so = omega arith
         at (Some s) so = so
 
@@ -264,31 +264,31 @@ moves_twice Stamp stamp before middle after on period one other = record { lines
     once : (a p : ℕ) → 1 ≤ p → a * p ≡ suc a * p → ⊥
     once a p some is = omega (arith, some, is)
 
-    by : (ticks_in middle.steersman ≡ ticks_in before.steersman) ⊎ ((ticks_in middle.steersman ≡ suc (ticks_in before.steersman)) × (stamp ≡ ticks_in before.steersman * tick_period (helm_of before.steersman)))
-        → (ticks_in after.steersman ≡ ticks_in middle.steersman) ⊎ ((ticks_in after.steersman ≡ suc (ticks_in middle.steersman)) × (stamp ≡ ticks_in middle.steersman * tick_period (helm_of middle.steersman)))
-        → (ticks_in after.steersman ≡ ticks_in before.steersman) ⊎ ((ticks_in after.steersman ≡ suc (ticks_in before.steersman)) × (stamp ≡ ticks_in before.steersman * tick_period (helm_of before.steersman)))
+    by : (ticks_in middle.helm_client ≡ ticks_in before.helm_client) ⊎ ((ticks_in middle.helm_client ≡ suc (ticks_in before.helm_client)) × (stamp ≡ ticks_in before.helm_client * tick_period (helm_of before.helm_client)))
+        → (ticks_in after.helm_client ≡ ticks_in middle.helm_client) ⊎ ((ticks_in after.helm_client ≡ suc (ticks_in middle.helm_client)) × (stamp ≡ ticks_in middle.helm_client * tick_period (helm_of middle.helm_client)))
+        → (ticks_in after.helm_client ≡ ticks_in before.helm_client) ⊎ ((ticks_in after.helm_client ≡ suc (ticks_in before.helm_client)) × (stamp ≡ ticks_in before.helm_client * tick_period (helm_of before.helm_client)))
     by (inl one) (inl other) = inl (other ∙ one)
     by (inl one) (inr other) = inr (other.0 ∙ ap suc one, other.1 ∙ (λ i. one i * same i))
     by (inr one) (inl other) = inr (other ∙ one.0, one.1)
-    by (inr one) (inr other) = absurd (once (ticks_in before.steersman) (tick_period (helm_of before.steersman)) some (sym one.1 ∙ other.1 ∙ (λ i. one.0 i * same i)))
+    by (inr one) (inr other) = absurd (once (ticks_in before.helm_client) (tick_period (helm_of before.helm_client)) some (sym one.1 ∙ other.1 ∙ (λ i. one.0 i * same i)))
 
 -- ---- the turn of a round
 
 -- there is an iteration a tick
-pub made_many : (names : List (List ℕ)) (history : History) (s : Option Steersman) → length (iterations_by names history (helm_of s) (ticks_in s)) ≡ ticks_in s
+pub made_many : (names : List (List ℕ)) (history : History) (s : Option HelmClient) → length (iterations_by names history (helm_of s) (ticks_in s)) ≡ ticks_in s
 made_many names history None = refl
 made_many names history (Some s) = iterations_many (plan_of s.helm) (heard_of names s.number history) s.ticks
 
 -- with these iterations more
-turn_of : (before after : Stage) (round : Round) (stamp : ℕ) → MovesAt stamp before after → round.stamp ≡ stamp → (left_in (shown_by after) ≡ 0) ⊎ (round.stamp < next_stamp (shown_by after)) → helm_of after.steersman ≡ helm_of before.steersman → after.script.now ≡ before.script.now → after.order ≡ Stamp
-    → length round.iterations + ticks_in before.steersman ≡ ticks_in after.steersman
-    → IfSome (helm_of before.steersman) (λ helm. HasNoTick helm before.script.now.stop (length (iterations_made (shown_by before))) round ⊎ HasTick helm (length (iterations_made (shown_by before))) round)
-turn_of before after round stamp moves is later same script order many = at before.steersman after.steersman refl refl same
+turn_of : (before after : Stage) (round : Round) (stamp : ℕ) → MovesAt stamp before after → round.stamp ≡ stamp → (left_in (shown_by after) ≡ 0) ⊎ (round.stamp < next_stamp (shown_by after)) → helm_of after.helm_client ≡ helm_of before.helm_client → after.script.now ≡ before.script.now → after.order ≡ Stamp
+    → length round.iterations + ticks_in before.helm_client ≡ ticks_in after.helm_client
+    → IfSome (helm_of before.helm_client) (λ helm. HasNoTick helm before.script.now.stop (length (iterations_made (shown_by before))) round ⊎ HasTick helm (length (iterations_made (shown_by before))) round)
+turn_of before after round stamp moves is later same script order many = at before.helm_client after.helm_client refl refl same
   where
-    made : length (iterations_made (shown_by before)) ≡ ticks_in before.steersman
-    made = made_many before.lock.base before.first.seat.seen before.steersman
+    made : length (iterations_made (shown_by before)) ≡ ticks_in before.helm_client
+    made = made_many before.lock.base before.first.seat.seen before.helm_client
 
-    at : (s t : Option Steersman) → before.steersman ≡ s → after.steersman ≡ t → helm_of t ≡ helm_of s → IfSome (helm_of s) (λ helm. HasNoTick helm before.script.now.stop (length (iterations_made (shown_by before))) round ⊎ HasTick helm (length (iterations_made (shown_by before))) round)
+    at : (s t : Option HelmClient) → before.helm_client ≡ s → after.helm_client ≡ t → helm_of t ≡ helm_of s → IfSome (helm_of s) (λ helm. HasNoTick helm before.script.now.stop (length (iterations_made (shown_by before))) round ⊎ HasTick helm (length (iterations_made (shown_by before))) round)
     at None t b a same = tt
     at (Some s) None b a same = absurd cc
     at (Some s) (Some t) b a same = by moves.ticks
@@ -296,10 +296,10 @@ turn_of before after round stamp moves is later same script order many = at befo
         period : t.period ≡ s.period
         period = period_same (Some s) (Some t) same
 
-        before_is : ticks_in before.steersman ≡ s.ticks
+        before_is : ticks_in before.helm_client ≡ s.ticks
         before_is = ap ticks_in b
 
-        after_is : ticks_in after.steersman ≡ t.ticks
+        after_is : ticks_in after.helm_client ≡ t.ticks
         after_is = ap ticks_in a
 
         made_is : length (iterations_made (shown_by before)) ≡ s.ticks
@@ -320,14 +320,14 @@ turn_of before after round stamp moves is later same script order many = at befo
             due_left : t.ticks ≤ after.script.now.stop / t.period
             due_left = omega (arith, stays, left, quotient)
 
-            due : tick_due after.script.now.stop after.steersman ≡ Some (t.ticks * t.period)
+            due : tick_due after.script.now.stop after.helm_client ≡ Some (t.ticks * t.period)
             due = ap (tick_due after.script.now.stop) a ∙ is_tick_due after.script.now.stop t due_left
 
             line : Option ℕ
             line = option_map (λ (line : Entry). line.stamp) (slice_get after.script.now.lines after.from)
 
             next : next_stamp (shown_by after) ≤ t.ticks * t.period
-            next = subst (λ order. stamp_next order after.script.now.stop (tick_due after.script.now.stop after.steersman) line ≤ t.ticks * t.period) (sym order)
+            next = subst (λ order. stamp_next order after.script.now.stop (tick_due after.script.now.stop after.helm_client) line ≤ t.ticks * t.period) (sym order)
                 (subst (λ tick. earliest after.script.now.stop tick line ≤ t.ticks * t.period) (sym due) (least_tick after.script.now.stop (t.ticks * t.period) line))
 
             from : (left_in (shown_by after) ≡ 0) ⊎ (round.stamp < next_stamp (shown_by after)) → round.stamp < s.ticks * s.period
@@ -336,8 +336,8 @@ turn_of before after round stamp moves is later same script order many = at befo
                 absurd (omega (arith, ticks, due_left))
             from (inr sooner) = omega (arith, sooner, next, stamp_same)
 
-        by : (ticks_in after.steersman ≡ ticks_in before.steersman) ⊎ ((ticks_in after.steersman ≡ suc (ticks_in before.steersman)) × (stamp ≡ ticks_in before.steersman * tick_period (helm_of before.steersman)))
-            → HasNoTick (steering_of s) before.script.now.stop (length (iterations_made (shown_by before))) round ⊎ HasTick (steering_of s) (length (iterations_made (shown_by before))) round
+        by : (ticks_in after.helm_client ≡ ticks_in before.helm_client) ⊎ ((ticks_in after.helm_client ≡ suc (ticks_in before.helm_client)) × (stamp ≡ ticks_in before.helm_client * tick_period (helm_of before.helm_client)))
+            → HasNoTick (helm_setup_of s) before.script.now.stop (length (iterations_made (shown_by before))) round ⊎ HasTick (helm_setup_of s) (length (iterations_made (shown_by before))) round
         by (inl stays) = inl (record {
           none = nothing round.iterations (omega (arith, many, stays));
           later = λ left. subst (λ n. round.stamp < n * s.period) (sym made_is) (early (sym after_is ∙ stays ∙ before_is) (subst (λ n. n < suc (before.script.now.stop / s.period)) made_is left));
@@ -352,13 +352,13 @@ turn_of before after round stamp moves is later same script order many = at befo
         })
 
 -- a helm, where there is one, has a period
-pub some_period : (stop : ℕ) (s : Option Steersman) → IfSome s (λ helm. (1 ≤ helm.period) × (helm.ticks ≤ ticks_to stop (steering_of helm))) → IfSome s (λ helm. 1 ≤ helm.period)
+pub some_period : (stop : ℕ) (s : Option HelmClient) → IfSome s (λ helm. (1 ≤ helm.period) × (helm.ticks ≤ ticks_to stop (helm_setup_of helm))) → IfSome s (λ helm. 1 ≤ helm.period)
 some_period stop None so = tt
 some_period stop (Some s) so = so.0
 
 -- the turn of a round
 pub turn_here : (before after : Stage) (w v : Bool) (round : Round) → IsPaused before → GoesOnWith (shown_by before) (shown_by after) → KeepsMoves before.order round.stamp before after → IsStampOver (shown_by after) round.stamp
-    → round.stamp ≡ next_stamp (shown_by before) → length round.iterations + ticks_in before.steersman ≡ ticks_in after.steersman → HasTurn before.order (playing_of before w) (playing_of after v) round
+    → round.stamp ≡ next_stamp (shown_by before) → length round.iterations + ticks_in before.helm_client ≡ ticks_in after.helm_client → HasTurn before.order (playing_of before w) (playing_of after v) round
 turn_here before after w v round between on kept over stamp many = by before.order refl
   where
     by : (order : Order) → before.order ≡ order → HasTurn order (playing_of before w) (playing_of after v) round

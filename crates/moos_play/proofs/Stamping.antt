@@ -14,12 +14,12 @@ use Rattle.moos_client.specs.Calls.{entries_of, SeatState}
 use Rattle.moos_post.specs.declared.entry.Entry.{Entry}
 use Rattle.moos_post.specs.History.{History}
 use Rattle.moos_play.specs.declared.stage.Stage.{Stage}
-use Rattle.moos_play.specs.declared.steersman.Steersman.{Steersman}
+use Rattle.moos_play.specs.declared.helm_client.HelmClient.{HelmClient}
 use Rattle.moos_lawful.specs.Schedules.{clients_below, entries_from}
-use Rattle.moos_play.specs.Lawful.{heard_of, helm_number, KeepsStamp, known_clients, Steering, tick_entries}
+use Rattle.moos_play.specs.Lawful.{heard_of, helm_number, KeepsStamp, known_clients, HelmSetup, tick_entries}
 use Rattle.moos_play.specs.Plays.{AddsAt, earliest, GoesOnWith, history_in, known_clients_in, next_stamp, order_played, Playing, stamp_next}
 use Rattle.moos_play.specs.Runs.{MayPlay, shown_by}
-use Rattle.moos_play.specs.Steered.{comes_before, HasLed, helm_of, IsBehind, IsDue, IsStopped, IsUnderWay, steering_of, Steers, tick_due}
+use Rattle.moos_play.specs.Steered.{comes_before, HasLed, helm_of, IsBehind, IsDue, IsStopped, IsUnderWay, helm_setup_of, Steers, tick_due}
 use Rattle.moos_step.specs.Steps.{GoesOn, IsAlone, IsPlayed, IsPlayedBeside, IsWhole}
 use Rattle.moos_lawful.proofs.Parts.{all_raised}
 use Rattle.moos_play.proofs.Below.{both_below, from_more, known_helm, known_more, tick_below, beside_pass}
@@ -66,7 +66,7 @@ none_further before after stamp on adds =
     (λ i. entries_from (known_clients (on.script i) (on.helm i)) (history_in after)) ∙ ap (entries_from (known_clients_in before)) adds.later.1 ∙ from_more (known_clients_in before) (history_in before) adds.later.0 adds.known
 
 -- lines are entries of the script's clients
-lines_known : {E : Type 0} (script : Script) (helm : Option Steering) (from n : ℕ) (result : Result (Unit {0}) E) (first after : SeatState) → are_lines (length script.names) 0 script.stop script.lines ≡ true → IsWhole first
+lines_known : {E : Type 0} (script : Script) (helm : Option HelmSetup) (from n : ℕ) (result : Result (Unit {0}) E) (first after : SeatState) → are_lines (length script.names) 0 script.stop script.lines ≡ true → IsWhole first
     → (on : GoesOn (IsPlayed (take n (drop from script.lines)) result) first after) → clients_below (known_clients script helm) on.later.0 ≡ true
 lines_known script helm from n result first after valid whole on =
     fronts_pass (λ entry. nat_lt entry.client (known_clients script helm)) (take n (drop from script.lines)) on.later.0 (λ m. (grown (IsPlayed (take n (drop from script.lines)) result) first after whole on m).front)
@@ -113,7 +113,7 @@ tick_stamp lines tick stop from behind = by (drop from lines) refl behind
 pub lines_add : {E : Type 0} {result : Result (Unit {0}) E} (play : Stage) (to : ℕ) (all : List Entry) (after : SeatState) → are_lines (length play.script.now.names) 0 play.script.now.stop play.script.now.lines ≡ true → IsWhole play.first.seat → all ≡ play.script.now.lines
     → GoesOn (IsPlayed (take (to - play.from) (drop play.from all)) result) play.first.seat after → MayPlay play.order play to → play.from < to → AddsAt play.order (next_stamp (shown_by play)) (known_clients_in (shown_by play)) play.first.seat.seen after.seen
 lines_add {result = result} play to all after valid whole same went may some =
-    record { later = on.later; stamped = stamped play.order may; known = lines_known script (helm_of play.steersman) play.from (to - play.from) result play.first.seat after valid whole on }
+    record { later = on.later; stamped = stamped play.order may; known = lines_known script (helm_of play.helm_client) play.from (to - play.from) result play.first.seat after valid whole on }
   where
     script : Script
     script = play.script.now
@@ -124,10 +124,10 @@ lines_add {result = result} play to all after valid whole same went may some =
     on : GoesOn (IsPlayed lines result) play.first.seat after
     on = subst (λ all. GoesOn (IsPlayed (take (to - play.from) (drop play.from all)) result) play.first.seat after) same went
 
-    stamped : (order : Order) → MayPlay order play to → KeepsStamp order (stamp_next order script.stop (tick_due play.script.now.stop play.steersman) (option_map (λ line. line.stamp) (slice_get script.lines play.from))) on.later.0
+    stamped : (order : Order) → MayPlay order play to → KeepsStamp order (stamp_next order script.stop (tick_due play.script.now.stop play.helm_client) (option_map (λ line. line.stamp) (slice_get script.lines play.from))) on.later.0
     stamped Race may = tt
     stamped Stamp due =
-        subst (λ stamp. list_all (λ (entry : Entry). entry.stamp == stamp) on.later.0 ≡ true) (sym (due_stamp script.lines (tick_due play.script.now.stop play.steersman) script.stop play.from to due some))
+        subst (λ stamp. list_all (λ (entry : Entry). entry.stamp == stamp) on.later.0 ≡ true) (sym (due_stamp script.lines (tick_due play.script.now.stop play.helm_client) script.stop play.from to due some))
         (fronts_pass (λ entry. entry.stamp == due.stamp) lines on.later.0 (λ n. (grown (IsPlayed lines result) play.first.seat after whole on n).front) due.one)
 
 -- in a race the entries may have any stamp
@@ -135,7 +135,7 @@ any_stamp : (order : Order) (stamp : ℕ) (entries : History) → order ≡ Race
 any_stamp order stamp entries race = subst (λ order. KeepsStamp order stamp entries) (sym race) tt
 
 -- in a race the lines that are left are played, and the helm may make ticks beside them
-pub race_add : {E : Type 0} {result : Result (Unit {0}) E} (order : Order) (script : Script) (s : Steersman) (stamp from to : ℕ) (all : List Entry) (first after : SeatState) → order ≡ Race → are_lines (length script.names) 0 script.stop script.lines ≡ true → IsWhole first
+pub race_add : {E : Type 0} {result : Result (Unit {0}) E} (order : Order) (script : Script) (s : HelmClient) (stamp from to : ℕ) (all : List Entry) (first after : SeatState) → order ≡ Race → are_lines (length script.names) 0 script.stop script.lines ≡ true → IsWhole first
     → s.number ≡ helm_number script → all ≡ script.lines → GoesOn (IsPlayedBeside s.number (take (to - from) (drop from all)) result) first after → AddsAt order stamp (known_clients script (Some s)) first.seen after.seen
 race_add {result = result} order script s stamp from to all first after race valid whole number same went =
     let lines : List Entry = take (to - from) (drop from script.lines) in
@@ -151,13 +151,13 @@ race_add {result = result} order script s stamp from to all first after race val
     }
 
 -- a front of the tick that is due
-tick_begins : (play : Stage) (old : Steersman) (after heard : History) → IsUnderWay play.order play.script.now play.lock (Some old) play.from play.first.seat → tick_due play.script.now.stop play.steersman ≡ Some (old.ticks * old.period) → play.steersman ≡ Some old
+tick_begins : (play : Stage) (old : HelmClient) (after heard : History) → IsUnderWay play.order play.script.now play.lock (Some old) play.from play.first.seat → tick_due play.script.now.stop play.helm_client ≡ Some (old.ticks * old.period) → play.helm_client ≡ Some old
     → IsBehind (Some (old.ticks * old.period)) (drop play.from play.script.now.lines) → (later : Begins after play.first.seat.seen) → Begins heard later.0 → list_all (λ entry. entry.stamp == old.ticks * old.period) heard ≡ true → clients_below (known_clients play.script.now (Some old)) heard ≡ true
     → AddsAt play.order (next_stamp (shown_by play)) (known_clients_in (shown_by play)) play.first.seat.seen after
 tick_begins play old after tick under due is behind later begins one known = record {
   later = later;
   stamped = subst (λ tick. KeepsStamp play.order (stamp_next play.order play.script.now.stop tick line) later.0) (sym due) (stamped play.order);
-  known = subst (λ (s : Option Steersman). clients_below (known_clients play.script.now (helm_of s)) later.0 ≡ true) (sym is) (front_pass (λ entry. nat_lt entry.client (known_clients play.script.now (Some old))) tick later.0 begins known);
+  known = subst (λ (s : Option HelmClient). clients_below (known_clients play.script.now (helm_of s)) later.0 ≡ true) (sym is) (front_pass (λ entry. nat_lt entry.client (known_clients play.script.now (Some old))) tick later.0 begins known);
 }
   where
     line : Option ℕ
@@ -170,16 +170,16 @@ tick_begins play old after tick under due is behind later begins one known = rec
         (front_pass (λ entry. entry.stamp == old.ticks * old.period) tick later.0 begins one)
 
 -- the tick that is due is made, or a front of it
-pub tick_adds : (play : Stage) (old new : Steersman) (after : SeatState) (result : Result (Unit {0}) AllocError) → IsUnderWay play.order play.script.now play.lock play.steersman play.from play.first.seat → play.steersman ≡ Some old
-    → tick_due play.script.now.stop play.steersman ≢ None → IsBehind (tick_due play.script.now.stop play.steersman) (drop play.from play.script.now.lines) → HasLed play.lock (IsAlone old.number) (old.ticks + 1) play.first.seat after old new result
+pub tick_adds : (play : Stage) (old new : HelmClient) (after : SeatState) (result : Result (Unit {0}) AllocError) → IsUnderWay play.order play.script.now play.lock play.helm_client play.from play.first.seat → play.helm_client ≡ Some old
+    → tick_due play.script.now.stop play.helm_client ≢ None → IsBehind (tick_due play.script.now.stop play.helm_client) (drop play.from play.script.now.lines) → HasLed play.lock (IsAlone old.number) (old.ticks + 1) play.first.seat after old new result
     → AddsAt play.order (next_stamp (shown_by play)) (known_clients_in (shown_by play)) play.first.seat.seen after.seen
 tick_adds play old new after result under is due behind led =
     tick_begins play old after.seen (tick_entries helm heard old.ticks) here tick is (subst (λ tick. IsBehind tick (drop play.from play.script.now.lines)) tick behind) on.later (begins result led.steered led.reached led.stopped)
     (and_from (old.ticks * old.period == old.ticks * old.period) ((old.ticks * old.period == old.ticks * old.period) && true) same (and_from (old.ticks * old.period == old.ticks * old.period) true same refl))
     (tick_below helm (known_clients play.script.now (Some old)) heard old.ticks (omega (arith, here.steered.0, known_helm play.script.now old)))
   where
-    helm : Steering
-    helm = steering_of old
+    helm : HelmSetup
+    helm = helm_setup_of old
 
     on : GoesOn (IsAlone old.number) play.first.seat after
     on = led.goes_on
@@ -193,8 +193,8 @@ tick_adds play old new after result under is due behind led =
     same : (old.ticks * old.period == old.ticks * old.period) ≡ true
     same = eq-eqb (old.ticks * old.period) (old.ticks * old.period) refl
 
-    tick : tick_due play.script.now.stop play.steersman ≡ Some (old.ticks * old.period)
-    tick = ap (tick_due play.script.now.stop) is ∙ due_is play.script.now.stop old (subst (λ (s : Option Steersman). tick_due play.script.now.stop s ≢ None) is due)
+    tick : tick_due play.script.now.stop play.helm_client ≡ Some (old.ticks * old.period)
+    tick = ap (tick_due play.script.now.stop) is ∙ due_is play.script.now.stop old (subst (λ (s : Option HelmClient). tick_due play.script.now.stop s ≢ None) is due)
 
     alone : on.later.0 ≡ entries_of old.number on.later.0
     alone = only_own old.number on.later.0 (λ n other. grown (IsAlone old.number) play.first.seat after under.whole on n other)

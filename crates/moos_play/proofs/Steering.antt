@@ -18,9 +18,9 @@ use Rattle.moos_post.specs.declared.entry.Call.TheVariants.{Post as Posts, Fetch
 use Rattle.moos_post.specs.declared.entry.Entry.{Entry}
 use Rattle.moos_post.specs.Delivery.{mail_after}
 use Rattle.moos_post.specs.History.{History, posts_of}
-use Rattle.moos_play.specs.Lawful.{heard_of, iterations_of, mailed_in, opening_of, Steering, ticks_of}
-use Rattle.moos_play.specs.declared.steersman.Steersman.{Steersman}
-use Rattle.moos_play.specs.Steered.{HasOwn, steering_of, Steers}
+use Rattle.moos_play.specs.Lawful.{heard_of, iterations_of, mailed_in, opening_of, HelmSetup, ticks_of}
+use Rattle.moos_play.specs.declared.helm_client.HelmClient.{HelmClient}
+use Rattle.moos_play.specs.Steered.{HasOwn, helm_setup_of, Steers}
 use Rattle.moos_step.specs.Steps.{Anything, HasMade, Makes}
 use Rattle.moos_client.proofs.Hearing.{entries_next, heard_fetch, heard_next, heard_on, IsNext}
 use Rattle.moos_play.proofs.Hearing.{iterations_many, iterations_stay, ticks_stay}
@@ -65,7 +65,7 @@ called_own seat after stamp call called =
     eq_self n = grind (arith, nat_tests)
 
 -- others go on: the helm stands as it did
-pub steered_on : (names : List (List ℕ)) (s : Steersman) (history rest : History) → Steers names s history → entries_of s.number rest ≡ [] → Steers names s (history ++ rest)
+pub steered_on : (names : List (List ℕ)) (s : HelmClient) (history rest : History) → Steers names s history → entries_of s.number rest ≡ [] → Steers names s (history ++ rest)
 steered_on names s history rest so none =
     let heard : heard_of names s.number history ≡ heard_of names s.number (history ++ rest) = sym (heard_on (mailed_in names) s.number history rest none) in
     record {
@@ -73,12 +73,12 @@ steered_on names s history rest so none =
       stands = subst (StandsFor s.helm) heard so.stands;
       many = ap length (sym heard) ∙ so.many;
       own = filter-append (λ entry. entry.client == s.number) history rest ∙ ap (λ end. entries_of s.number history ++ end) none ∙ append-nil (entries_of s.number history)
-          ∙ so.own ∙ ap (λ heard. opening_of (steering_of s) ++ ticks_of (steering_of s) heard s.ticks) heard;
+          ∙ so.own ∙ ap (λ heard. opening_of (helm_setup_of s) ++ ticks_of (helm_setup_of s) heard s.ticks) heard;
       same = so.same ∙ ap (λ heard. drop (s.ticks - length s.iterations) (iterations_of (plan_of s.helm) heard s.ticks)) heard;
     }
 
 -- one tick more
-pub ticked_on : (names : List (List ℕ)) (s : Steersman) (new : Helm) (calls : ℕ) (before between after : History) (mail : List Letter) (iteration : Iteration) → Steers names s before
+pub ticked_on : (names : List (List ℕ)) (s : HelmClient) (new : Helm) (calls : ℕ) (before between after : History) (mail : List Letter) (iteration : Iteration) → Steers names s before
     → (fetched : IsNext s.number before between (entry_of s.number (s.ticks * s.period) Fetch)) → mail ≡ letters_after names s.number (before ++ fetched.between) → IsTicked s.helm new (s.ticks * s.period) mail iteration
     → IsNext s.number between after (entry_of s.number (s.ticks * s.period) (Posts iteration.posts)) → Steers names (record s { helm = new; calls = calls; ticks = suc s.ticks; iterations = s.iterations ++ iteration ∷ [] }) after
 ticked_on names s new calls before between after mail iteration so fetched mail_is ticked posted = record {
@@ -97,13 +97,13 @@ ticked_on names s new calls before between after mail iteration so fetched mail_
       ∙ ap (λ n. drop n (iterations_of helm.plan now (suc s.ticks))) (omega (arith, length-append s.iterations (iteration ∷ []))));
 }
   where
-    helm : Steering
-    helm = steering_of s
+    helm : HelmSetup
+    helm = helm_setup_of s
 
     told : ℕ
     told = s.ticks - length s.iterations
 
-    run : Plan → Steering
+    run : Plan → HelmSetup
     run plan = record { client = s.number; plan = plan; period = s.period }
 
     start : List Tick

@@ -47,13 +47,13 @@ stepped_twice {B = B} result stamp before middle after at one other = record {
   moves = moves result other.moves;
 }
   where
-    told : (r : Result B AllocError) → OnOk r (KeepsEach middle.steersman after.steersman) → OnOk r (KeepsEach before.steersman after.steersman)
+    told : (r : Result B AllocError) → OnOk r (KeepsEach middle.helm_client after.helm_client) → OnOk r (KeepsEach before.helm_client after.helm_client)
     told (Ok _) so = omega (arith, so, one.told)
     told (Err _) so = tt
 
     moves : (r : Result B AllocError) → OnOk r (KeepsMoves middle.order stamp middle after) → OnOk r (KeepsMoves before.order stamp before after)
     moves (Ok _) so =
-        moves_twice before.order stamp before middle after one.same (some_period before.script.now.stop before.steersman at.period) one.moves
+        moves_twice before.order stamp before middle after one.same (some_period before.script.now.stop before.helm_client at.period) one.moves
         (subst (λ order. KeepsMoves order stamp middle after) one.same.order so)
     moves (Err _) so = tt
 

@@ -17,10 +17,10 @@ use Rattle.moos_lawful.proofs.Parts.{all_raised, due_stays, either, none_of}
 use Rattle.moos_lawful.proofs.Stepping.{KeepsMoment, left_by, lines_moment, step_on, turns_rise}
 use Rattle.moos_post.specs.declared.entry.Entry.{Entry}
 use Rattle.moos_post.specs.History.{History}
-use Rattle.moos_play.specs.declared.steersman.Steersman.{Steersman}
-use Rattle.moos_play.specs.Lawful.{heard_of, mailed_in, Steering, ticks_to}
+use Rattle.moos_play.specs.declared.helm_client.HelmClient.{HelmClient}
+use Rattle.moos_play.specs.Lawful.{heard_of, mailed_in, HelmSetup, ticks_to}
 use Rattle.moos_play.specs.Schedules.{answerers, answering, schedule_with, tick_period}
-use Rattle.moos_play.specs.Steered.{comes_before, HasPlayed, helm_of, left_for, parts, steering_of, tick_due, turns_left}
+use Rattle.moos_play.specs.Steered.{comes_before, HasPlayed, helm_of, left_for, parts, helm_setup_of, tick_due, turns_left}
 use Rattle.moos_play.proofs.Standing.{StandsAt}
 use Rattle.script_reader.specs.declared.script.Order.{Order}
 use Rattle.script_reader.specs.declared.script.Order.TheVariants.{Stamp, Race}
@@ -87,18 +87,18 @@ pub all_end : (p : Entry → Bool) (lines : List Entry) (from : ℕ) → list_al
 all_end p lines from all = (and_parts (list_all p (take from lines)) (list_all p (drop from lines)) (sym (list_all-append p (take from lines) (drop from lines)) ∙ ap (list_all p) (take-append-drop from lines) ∙ all)).1
 
 -- what an order asks of lines: by their stamps they have one stamp, are some, and aren't behind the next tick
-pub record ComeNext (script : Script) (s : Option Steersman) (lines : List Entry) : Type 0 where
+pub record ComeNext (script : Script) (s : Option HelmClient) (lines : List Entry) : Type 0 where
   pub stamp : ℕ
   pub one : list_all (λ line. line.stamp == stamp) lines ≡ true
   pub some : 0 < length lines
   pub early : comes_before (tick_due script.stop s) stamp ≡ false
 
-abbrev pub MayCome : Script → Order → Option Steersman → List Entry → Type 0
+abbrev pub MayCome : Script → Order → Option HelmClient → List Entry → Type 0
 MayCome script Stamp s lines = ComeNext script s lines
 MayCome script Race s lines = Unit {0}
 
 -- a stamp that isn't behind the next tick
-pub ahead : (script : Script) (s : Option Steersman) (stamp : ℕ) → comes_before (tick_due script.stop s) stamp ≡ false → (t : Steersman) → s ≡ Some t → t.ticks < ticks_to script.stop (steering_of t) → stamp ≤ t.ticks * t.period
+pub ahead : (script : Script) (s : Option HelmClient) (stamp : ℕ) → comes_before (tick_due script.stop s) stamp ≡ false → (t : HelmClient) → s ≡ Some t → t.ticks < ticks_to script.stop (helm_setup_of t) → stamp ≤ t.ticks * t.period
 ahead script s stamp late t is left =
     let here : nat_le t.ticks (script.stop / t.period) ≡ true = grind (arith, nat_tests, left) in
     let now : nat_lt (t.ticks * t.period) stamp ≡ false = subst (λ b. comes_before (cond b (Some (t.ticks * t.period)) None) stamp ≡ false) here (subst (λ s. comes_before (tick_due script.stop s) stamp ≡ false) is late) in
@@ -110,7 +110,7 @@ module _ (script : Script) (names : List (List ℕ)) (valid : are_lines (length 
     theirs from = all_end (λ line. nat_lt line.client (length script.names)) script.lines from (lines_clients (length script.names) 0 script.stop script.lines valid)
 
     -- what is left for a client of the script
-    pub own_left : (order : Order) (s : Option Steersman) (from : ℕ) (history : History) (played : HasPlayed order script names s from history) (n : ℕ) → n < (length script.names) → played.so_far.left n ≡ entries_of n (drop from script.lines)
+    pub own_left : (order : Order) (s : Option HelmClient) (from : ℕ) (history : History) (played : HasPlayed order script names s from history) (n : ℕ) → n < (length script.names) → played.so_far.left n ≡ entries_of n (drop from script.lines)
     own_left order s from history played n less =
         played.left n (omega (arith, less)) ∙ ap (λ b. cond b (entries_of n (drop from script.lines)) (turns_left script.stop s names history)) below
       where
@@ -118,7 +118,7 @@ module _ (script : Script) (names : List (List ℕ)) (valid : are_lines (length 
         below = grind (arith, nat_tests, less)
 
     -- and for the helm
-    helm_has_left : (order : Order) (s : Option Steersman) (from : ℕ) (history : History) (played : HasPlayed order script names s from history) (n : ℕ) → (length script.names) ≤ n → n < parts script s → played.so_far.left n ≡ turns_left script.stop s names history
+    helm_has_left : (order : Order) (s : Option HelmClient) (from : ℕ) (history : History) (played : HasPlayed order script names s from history) (n : ℕ) → (length script.names) ≤ n → n < parts script s → played.so_far.left n ≡ turns_left script.stop s names history
     helm_has_left order s from history played n past under =
         played.left n under ∙ ap (λ b. cond b (entries_of n (drop from script.lines)) (turns_left script.stop s names history)) above
       where
@@ -126,7 +126,7 @@ module _ (script : Script) (names : List (List ℕ)) (valid : are_lines (length 
         above = grind (arith, nat_tests, past)
 
     -- what is left by a step is what is left from there
-    pub has_played : (order : Order) (s : Option Steersman) (to : ℕ) (history : History) (so : IsLawfulSoFar (schedule_with order script (helm_of s) names) history) (left : ℕ → List Entry) → so.left ≡ left_by (length script.names) (λ n. []) (drop to script.lines) left
+    pub has_played : (order : Order) (s : Option HelmClient) (to : ℕ) (history : History) (so : IsLawfulSoFar (schedule_with order script (helm_of s) names) history) (left : ℕ → List Entry) → so.left ≡ left_by (length script.names) (λ n. []) (drop to script.lines) left
         → ((n : ℕ) → (length script.names) ≤ n → n < parts script s → left n ≡ turns_left script.stop s names history) → HasPlayed order script names s to history
     has_played order s to history so left is turns = record {
       so_far = so;
@@ -140,17 +140,17 @@ module _ (script : Script) (names : List (List ℕ)) (valid : are_lines (length 
             ap (λ b. cond b ([] ++ entries_of n (drop to script.lines)) (left n)) e ∙ turns n (grind (arith, nat_tests, e)) under ∙ sym (ap (λ b. cond b (entries_of n (drop to script.lines)) (turns_left script.stop s names history)) e)
 
     -- the helm's next turns rise from a moment that isn't above the next tick
-    turns_late : (s : Option Steersman) (number : ℕ) (history : History) (bound : ℕ) → StandsAt names number s history → ((t : Steersman) → s ≡ Some t → t.ticks < ticks_to script.stop (steering_of t) → bound ≤ suc (length (answerers (helm_of s))) * (t.ticks * t.period) + (suc t.number - (length script.names)))
+    turns_late : (s : Option HelmClient) (number : ℕ) (history : History) (bound : ℕ) → StandsAt names number s history → ((t : HelmClient) → s ≡ Some t → t.ticks < ticks_to script.stop (helm_setup_of t) → bound ≤ suc (length (answerers (helm_of s))) * (t.ticks * t.period) + (suc t.number - (length script.names)))
         → rises bound (map (moment_in Stamp (length script.names) (length (answerers (helm_of s)))) (turns_left script.stop s names history)) ≡ true
     turns_late None number history bound stands low = refl
-    turns_late (Some t) number history bound stands low = by (ticks_to script.stop (steering_of t) - t.ticks) refl
+    turns_late (Some t) number history bound stands low = by (ticks_to script.stop (helm_setup_of t) - t.ticks) refl
       where
-        by : (count : ℕ) → ticks_to script.stop (steering_of t) - t.ticks ≡ count → rises bound (map (moment_in Stamp (length script.names) 1) (turns_from (answering (steering_of t)) t.number t.period (heard_of names t.number history) t.ticks count)) ≡ true
+        by : (count : ℕ) → ticks_to script.stop (helm_setup_of t) - t.ticks ≡ count → rises bound (map (moment_in Stamp (length script.names) 1) (turns_from (answering (helm_setup_of t)) t.number t.period (heard_of names t.number history) t.ticks count)) ≡ true
         by zero e = refl
-        by (suc count) e = turns_rise (answering (steering_of t)) (length script.names) 1 t.number t.period (heard_of names t.number history) t.ticks (suc count) bound (low t refl (omega (arith, e)))
+        by (suc count) e = turns_rise (answering (helm_setup_of t)) (length script.names) 1 t.number t.period (heard_of names t.number history) t.ticks (suc count) bound (low t refl (omega (arith, e)))
 
     -- LINES ARE PLAYED, or fronts of them.
-    pub lines_step : (order : Order) (s : Option Steersman) (from to : ℕ) (lines : List Entry) (history later : History) (played : HasPlayed order script names s from history) (rest : ℕ → List Entry) → parts script s ≤ length names → drop from script.lines ≡ lines ++ drop to script.lines
+    pub lines_step : (order : Order) (s : Option HelmClient) (from to : ℕ) (lines : List Entry) (history later : History) (played : HasPlayed order script names s from history) (rest : ℕ → List Entry) → parts script s ≤ length names → drop from script.lines ≡ lines ++ drop to script.lines
         → ((n : ℕ) → entries_of n lines ≡ entries_of n later ++ rest n) → MayCome script order s lines → StandsAt names (length script.names) s history
         → (on : IsLawfulSoFar (schedule_with order script (helm_of s) names) (history ++ later)) × (on.left ≡ left_by (length script.names) rest (drop to script.lines) (λ n. turns_left script.stop s names history))
     lines_step order s from to lines history later played rest room cut fronts come stands =
@@ -196,7 +196,7 @@ module _ (script : Script) (names : List (List ℕ)) (valid : are_lines (length 
             (λ n past under. turns_late s (length script.names) history (suc (length (answerers (helm_of s))) * come.stamp) stands (λ t is left. bounded (suc (length (answerers (helm_of s)))) come.stamp (t.ticks * t.period) (suc t.number - (length script.names)) (ahead script s come.stamp come.early t is left)))
 
     -- THE HELM MAKES TURNS beside lines that are played, or fronts of both.
-    pub helm_step : (order : Order) (helm : Steering) (from to : ℕ) (lines : List Entry) (history later : History) (so : IsLawfulSoFar (schedule_with order script (Some helm) names) history) (rest : ℕ → List Entry) (left : List Entry) → length script.names + 1 ≤ length names
+    pub helm_step : (order : Order) (helm : HelmSetup) (from to : ℕ) (lines : List Entry) (history later : History) (so : IsLawfulSoFar (schedule_with order script (Some helm) names) history) (rest : ℕ → List Entry) (left : List Entry) → length script.names + 1 ≤ length names
         → ((n : ℕ) → n < length script.names → so.left n ≡ entries_of n (drop from script.lines)) → drop from script.lines ≡ lines ++ drop to script.lines → ((n : ℕ) → n < length script.names → entries_of n lines ≡ entries_of n later ++ rest n)
         → due_in (schedule_with order script (Some helm) names) (length script.names) (so.rest ++ later) ≡ entries_of (length script.names) (so.rest ++ later) ++ left → clients_below (length script.names + 1) later ≡ true
         → KeepsMoment script.lines (length script.names) script.stop helm.period (answerers (Some helm)) (length names) (mailed_in names) order so.rest later (left_by (length script.names) rest (drop to script.lines) (λ n. left))

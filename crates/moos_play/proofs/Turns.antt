@@ -29,15 +29,15 @@ use Rattle.moos_post.specs.declared.entry.Call.TheVariants.{Register, Post as Po
 use Rattle.moos_post.specs.declared.entry.Entry.{Entry}
 use Rattle.moos_post.specs.Delivery.{is_fetch}
 use Rattle.moos_post.specs.History.{History}
-use Rattle.moos_play.specs.declared.steersman.Steersman.{Steersman}
-use Rattle.moos_play.specs.Lawful.{heard_of, mailed_in, opening_of, Steering, tick_entries, ticks_of, ticks_to}
+use Rattle.moos_play.specs.declared.helm_client.HelmClient.{HelmClient}
+use Rattle.moos_play.specs.Lawful.{heard_of, mailed_in, opening_of, HelmSetup, tick_entries, ticks_of, ticks_to}
 use Rattle.moos_play.specs.Schedules.{answering, schedule_with}
-use Rattle.moos_play.specs.Steered.{IsStopped, steering_of, Steers, turns_left}
+use Rattle.moos_play.specs.Steered.{IsStopped, helm_setup_of, Steers, turns_left}
 use Rattle.script_reader.specs.declared.script.Order.{Order}
 use Rattle.script_reader.specs.declared.script.Script.{Script}
 
 -- the opening is the helm's
-pub own_opening : (helm : Steering) → entries_of helm.client (opening_of helm) ≡ opening_of helm
+pub own_opening : (helm : HelmSetup) → entries_of helm.client (opening_of helm) ≡ opening_of helm
 own_opening helm = subst (λ b. cond b (registering ∷ entries_of helm.client (more (nat_lt 0 (length helm.plan.opening)))) (entries_of helm.client (more (nat_lt 0 (length helm.plan.opening)))) ≡ registering ∷ more (nat_lt 0 (length helm.plan.opening))) (sym self)
     (ap (λ rest. registering ∷ rest) (by (nat_lt 0 (length helm.plan.opening))))
   where
@@ -58,13 +58,13 @@ own_opening helm = subst (λ b. cond b (registering ∷ entries_of helm.client (
     by false = refl
 
 -- what the helm says at a turn is what its iteration posts
-says_same : (helm : Steering) (heard : List Tick) (i : ℕ) → i < length heard → (answering helm).says (take (suc i) heard) ≡ (iteration_at helm.plan heard i).posts
+says_same : (helm : HelmSetup) (heard : List Tick) (i : ℕ) → i < length heard → (answering helm).says (take (suc i) heard) ≡ (iteration_at helm.plan heard i).posts
 says_same helm heard i below =
     let many : length (take (suc i) heard) ≡ suc i = omega (arith, below, length-take (suc i) heard) in
     ap (λ n. (iteration_at helm.plan (take (suc i) heard) n).posts) (ap (λ n. n - 1) many ∙ omega arith)
     ∙ ap (λ (iteration : Iteration). iteration.posts) (sym (iteration_same helm.plan (take (suc i) heard) (drop (suc i) heard) i (omega (arith, many))) ∙ ap (λ heard. iteration_at helm.plan heard i) (take-append-drop (suc i) heard))
 
-pub turns_are : (helm : Steering) (heard : List Tick) (count more : ℕ) → count ≤ length heard
+pub turns_are : (helm : HelmSetup) (heard : List Tick) (count more : ℕ) → count ≤ length heard
     → turns_from (answering helm) helm.client helm.period heard 0 (count + more) ≡ ticks_of helm heard count ++ turns_from (answering helm) helm.client helm.period heard count more
 turns_are helm heard zero more below = ap (turns_from (answering helm) helm.client helm.period heard 0) (omega arith)
 turns_are helm heard (suc count) more below =
@@ -73,7 +73,7 @@ turns_are helm heard (suc count) more below =
     ∙ (λ j. ticks_of helm heard count ++ entry_of helm.client (count * helm.period) Fetch ∷ entry_of helm.client (count * helm.period) (Posts (says_same helm heard count (omega (arith, below)) j)) ∷ turns_from (answering helm) helm.client helm.period heard (suc count) more)
     ∙ sym (append_assoc (ticks_of helm heard count) (tick_entries helm heard count) (turns_from (answering helm) helm.client helm.period heard (suc count) more))
 
-pub start_is : (n : ℕ) (helm : Steering) → helm.client ≡ n → openings n (answering helm ∷ []) ≡ opening_of helm
+pub start_is : (n : ℕ) (helm : HelmSetup) → helm.client ≡ n → openings n (answering helm ∷ []) ≡ opening_of helm
 start_is n helm is = append-nil (map (entry_of n 0) (answering helm).opening) ∙ subst (λ n. map (entry_of n 0) (answering helm).opening ≡ opening_of helm) is (by (nat_lt 0 (length helm.plan.opening)))
   where
     by : (b : Bool) → map (entry_of helm.client 0) (Register (wants_of helm.plan) ∷ cond b (Posts helm.plan.opening ∷ []) []) ≡ entry_of helm.client 0 (Register (wants_of helm.plan)) ∷ cond b (entry_of helm.client 0 (Posts helm.plan.opening) ∷ []) []
@@ -81,28 +81,28 @@ start_is n helm is = append-nil (map (entry_of n 0) (answering helm).opening) �
     by false = refl
 
 -- the helm hears nothing at its opening
-pub opening_deaf : (helm : Steering) → list_all (λ entry. not (is_fetch entry.call)) (opening_of helm) ≡ true
+pub opening_deaf : (helm : HelmSetup) → list_all (λ entry. not (is_fetch entry.call)) (opening_of helm) ≡ true
 opening_deaf helm = by (nat_lt 0 (length helm.plan.opening))
   where
     by : (b : Bool) → list_all (λ entry. not (is_fetch entry.call)) (entry_of helm.client 0 (Register (wants_of helm.plan)) ∷ cond b (entry_of helm.client 0 (Posts helm.plan.opening) ∷ []) []) ≡ true
     by true = refl
     by false = refl
 
-pub heard_rest : (names : List (List ℕ)) (helm : Steering) (rest : History) → heard_in (mailed_in names) helm.client (opening_of helm) rest ≡ heard_of names helm.client (opening_of helm ++ rest)
+pub heard_rest : (names : List (List ℕ)) (helm : HelmSetup) (rest : History) → heard_in (mailed_in names) helm.client (opening_of helm) rest ≡ heard_of names helm.client (opening_of helm ++ rest)
 heard_rest names helm rest =
     sym (heard_append (mailed_in names) helm.client [] (opening_of helm) rest ∙ ap (λ heard. heard ++ heard_in (mailed_in names) helm.client (opening_of helm) rest) (heard_deaf (mailed_in names) helm.client [] (opening_of helm) (opening_deaf helm)))
 
 -- what is known of the helm at its seat, and what is left of its turns
-helm_due : (names : List (List ℕ)) (s : Steersman) (stop : ℕ) (rest history : History) → history ≡ opening_of (steering_of s) ++ rest → Steers names s history → s.ticks ≤ ticks_to stop (steering_of s)
-    → turns_from (answering (steering_of s)) s.number s.period (heard_in (mailed_in names) s.number (opening_of (steering_of s)) rest) 0 (suc (stop / s.period))
-    ≡ entries_of s.number rest ++ turns_from (answering (steering_of s)) s.number s.period (heard_of names s.number history) s.ticks (suc (stop / s.period) - s.ticks)
+helm_due : (names : List (List ℕ)) (s : HelmClient) (stop : ℕ) (rest history : History) → history ≡ opening_of (helm_setup_of s) ++ rest → Steers names s history → s.ticks ≤ ticks_to stop (helm_setup_of s)
+    → turns_from (answering (helm_setup_of s)) s.number s.period (heard_in (mailed_in names) s.number (opening_of (helm_setup_of s)) rest) 0 (suc (stop / s.period))
+    ≡ entries_of s.number rest ++ turns_from (answering (helm_setup_of s)) s.number s.period (heard_of names s.number history) s.ticks (suc (stop / s.period) - s.ticks)
 helm_due names s stop rest history is steers few =
     (λ j. turns_from (answering helm) s.number s.period (heard_is j) 0 (count j))
     ∙ turns_are helm heard s.ticks (suc (stop / s.period) - s.ticks) (omega (arith, steers.many))
     ∙ ap (λ front. front ++ turns_from (answering helm) s.number s.period heard s.ticks (suc (stop / s.period) - s.ticks)) (sym own)
   where
-    helm : Steering
-    helm = steering_of s
+    helm : HelmSetup
+    helm = helm_setup_of s
 
     heard : List Tick
     heard = heard_of names s.number history
@@ -118,7 +118,7 @@ helm_due names s stop rest history is steers few =
 
 -- A helm that has stopped, between two ticks or within one, has made the first of what it is due to make: what is left of its tick, and the
 -- ticks behind that, are left.
-pub stopped_due : (names : List (List ℕ)) (helm : Steering) (stop whole most : ℕ) (rest history : History) → history ≡ opening_of helm ++ rest → (stopped : IsStopped names helm whole most history) → most ≤ ticks_to stop helm
+pub stopped_due : (names : List (List ℕ)) (helm : HelmSetup) (stop whole most : ℕ) (rest history : History) → history ≡ opening_of helm ++ rest → (stopped : IsStopped names helm whole most history) → most ≤ ticks_to stop helm
     → turns_from (answering helm) helm.client helm.period (heard_in (mailed_in names) helm.client (opening_of helm) rest) 0 (suc (stop / helm.period))
     ≡ entries_of helm.client rest ++ (stopped.left ++ turns_from (answering helm) helm.client helm.period (heard_of names helm.client history) (length (heard_of names helm.client history)) (suc (stop / helm.period) - length (heard_of names helm.client history)))
 stopped_due names helm stop whole most rest history is stopped few =
@@ -149,7 +149,7 @@ stopped_due names helm stop whole most rest history is stopped few =
     own = append_cancel_left (opening_of helm) (entries_of helm.client rest ++ stopped.left) (ticks_of helm heard (length heard)) all
 
 -- what the helm is due to do by the schedule of a script are its turns
-pub helm_part : (order : Order) (script : Script) (helm : Steering) (names : List (List ℕ)) (rest : History) → helm.client ≡ length script.names
+pub helm_part : (order : Order) (script : Script) (helm : HelmSetup) (names : List (List ℕ)) (rest : History) → helm.client ≡ length script.names
     → due_in (schedule_with order script (Some helm) names) (length script.names) rest ≡ turns_from (answering helm) helm.client helm.period (heard_in (mailed_in names) helm.client (opening_of helm) rest) 0 (ticks_to script.stop helm)
 helm_part order script helm names rest number =
     ap (λ b. cond b (entries_of clients script.lines) (answers_of helm.period (ticks_to script.stop helm) clients (answering helm ∷ []) clients heard)) past
@@ -166,18 +166,18 @@ helm_part order script helm names rest number =
     past = grind (arith, nat_tests)
 
 -- a helm between two ticks has its next turns left
-pub helm_left : (order : Order) (script : Script) (names : List (List ℕ)) (s : Steersman) (rest history : History) → history ≡ opening_of (steering_of s) ++ rest → s.number ≡ length script.names → Steers names s history → s.ticks ≤ ticks_to script.stop (steering_of s)
-    → due_in (schedule_with order script (Some (steering_of s)) names) (length script.names) rest ≡ entries_of (length script.names) rest ++ turns_left script.stop (Some s) names history
+pub helm_left : (order : Order) (script : Script) (names : List (List ℕ)) (s : HelmClient) (rest history : History) → history ≡ opening_of (helm_setup_of s) ++ rest → s.number ≡ length script.names → Steers names s history → s.ticks ≤ ticks_to script.stop (helm_setup_of s)
+    → due_in (schedule_with order script (Some (helm_setup_of s)) names) (length script.names) rest ≡ entries_of (length script.names) rest ++ turns_left script.stop (Some s) names history
 helm_left order script names s rest history is number steers few =
-    helm_part order script (steering_of s) names rest number ∙ helm_due names s script.stop rest history is steers few ∙ (λ i. entries_of (number i) rest ++ turns_left script.stop (Some s) names history)
+    helm_part order script (helm_setup_of s) names rest number ∙ helm_due names s script.stop rest history is steers few ∙ (λ i. entries_of (number i) rest ++ turns_left script.stop (Some s) names history)
 
 -- what a helm that has stopped has left: what is left of its tick, and the turns behind that
-abbrev pub stopped_left : (script : Script) (names : List (List ℕ)) (helm : Steering) (whole most : ℕ) (history : History) → IsStopped names helm whole most history → List Entry
+abbrev pub stopped_left : (script : Script) (names : List (List ℕ)) (helm : HelmSetup) (whole most : ℕ) (history : History) → IsStopped names helm whole most history → List Entry
 stopped_left script names helm whole most history stopped =
     let heard = heard_of names helm.client history in
     stopped.left ++ turns_from (answering helm) helm.client helm.period heard (length heard) (ticks_to script.stop helm - length heard)
 
-pub helm_stopped : (order : Order) (script : Script) (names : List (List ℕ)) (helm : Steering) (whole most : ℕ) (rest history : History) → history ≡ opening_of helm ++ rest → helm.client ≡ length script.names → (stopped : IsStopped names helm whole most history) → most ≤ ticks_to script.stop helm
+pub helm_stopped : (order : Order) (script : Script) (names : List (List ℕ)) (helm : HelmSetup) (whole most : ℕ) (rest history : History) → history ≡ opening_of helm ++ rest → helm.client ≡ length script.names → (stopped : IsStopped names helm whole most history) → most ≤ ticks_to script.stop helm
     → due_in (schedule_with order script (Some helm) names) (length script.names) rest ≡ entries_of (length script.names) rest ++ stopped_left script names helm whole most history stopped
 helm_stopped order script names helm whole most rest history is number stopped few =
     helm_part order script helm names rest number ∙ stopped_due names helm script.stop whole most rest history is stopped few ∙ (λ i. entries_of (number i) rest ++ stopped_left script names helm whole most history stopped)
@@ -188,11 +188,11 @@ front_none [] ys none = refl
 front_none (x ∷ xs) ys none = absurd (omega (arith, ap length none))
 
 -- What a helm that was alone has made of its next tick: nothing, or all but what is left of it.
-pub record HasBegun (names : List (List ℕ)) (helm : Steering) (count : ℕ) (history later left : History) : Type 0 where
+pub record HasBegun (names : List (List ℕ)) (helm : HelmSetup) (count : ℕ) (history later left : History) : Type 0 where
   pub nothing : length (heard_of names helm.client (history ++ later)) ≡ count → later ++ left ≡ []
   pub begun : length (heard_of names helm.client (history ++ later)) ≢ count → (length (heard_of names helm.client (history ++ later)) ≡ suc count) × (later ++ left ≡ tick_entries helm (heard_of names helm.client (history ++ later)) count)
 
-pub has_begun : (names : List (List ℕ)) (helm : Steering) (count whole : ℕ) (history later : History) → length (heard_of names helm.client history) ≡ count → entries_of helm.client history ≡ opening_of helm ++ ticks_of helm (heard_of names helm.client history) count
+pub has_begun : (names : List (List ℕ)) (helm : HelmSetup) (count whole : ℕ) (history later : History) → length (heard_of names helm.client history) ≡ count → entries_of helm.client history ≡ opening_of helm ++ ticks_of helm (heard_of names helm.client history) count
     → later ≡ entries_of helm.client later → (stopped : IsStopped names helm whole (count + 1) (history ++ later)) → HasBegun names helm count history later stopped.left
 has_begun names helm count whole history later many own alone stopped = record {
   nothing = λ is. append_cancel_left front (later ++ stopped.left) [] (made ∙ ap (λ n. opening_of helm ++ ticks_of helm now n) is ∙ sym (append-nil front));
@@ -225,7 +225,7 @@ has_begun names helm count whole history later many own alone stopped = record {
         ∙ ap (λ front. front ++ stopped.left) (sym (filter-append (λ entry. entry.client == helm.client) history later)) ∙ stopped.own
 
 -- so its entries are a front of the tick's
-pub begun_front : (names : List (List ℕ)) (helm : Steering) (count : ℕ) (history later left : History) → HasBegun names helm count history later left → Begins (tick_entries helm (heard_of names helm.client (history ++ later)) count) later
+pub begun_front : (names : List (List ℕ)) (helm : HelmSetup) (count : ℕ) (history later left : History) → HasBegun names helm count history later left → Begins (tick_entries helm (heard_of names helm.client (history ++ later)) count) later
 begun_front names helm count history later left so = by (ℕ_discrete (length (heard_of names helm.client (history ++ later))) count)
   where
     tick : List Entry
@@ -236,7 +236,7 @@ begun_front names helm count history later left so = by (ℕ_discrete (length (h
     by (no other) = (left, sym (so.begun other).1)
 
 -- all entries of a tick have the second moment of their stamp
-tick_one : (clients : ℕ) (helm : Steering) (heard : List Tick) (i : ℕ) → list_all (λ entry. moment_in Stamp clients 1 entry == 2 * (i * helm.period) + (suc helm.client - clients)) (tick_entries helm heard i) ≡ true
+tick_one : (clients : ℕ) (helm : HelmSetup) (heard : List Tick) (i : ℕ) → list_all (λ entry. moment_in Stamp clients 1 entry == 2 * (i * helm.period) + (suc helm.client - clients)) (tick_entries helm heard i) ≡ true
 tick_one clients helm heard i = and_from (m == m) ((m == m) && true) same (and_from (m == m) true same refl)
   where
     m : ℕ
@@ -253,12 +253,12 @@ by_moments key moment (x ∷ xs) all =
     and_from (key x == moment) (list_all (λ n. n == moment) (map key xs)) tests.0 (by_moments key moment xs tests.1)
 
 -- so have those of a front of it
-pub front_one : (clients : ℕ) (helm : Steering) (heard : List Tick) (i : ℕ) (later : List Entry) → Begins (tick_entries helm heard i) later → list_all (λ n. n == 2 * (i * helm.period) + (suc helm.client - clients)) (map (moment_in Stamp clients 1) later) ≡ true
+pub front_one : (clients : ℕ) (helm : HelmSetup) (heard : List Tick) (i : ℕ) (later : List Entry) → Begins (tick_entries helm heard i) later → list_all (λ n. n == 2 * (i * helm.period) + (suc helm.client - clients)) (map (moment_in Stamp clients 1) later) ≡ true
 front_one clients helm heard i later begins =
     by_moments (moment_in Stamp clients 1) (2 * (i * helm.period) + (suc helm.client - clients)) later (front_pass (λ entry. moment_in Stamp clients 1 entry == 2 * (i * helm.period) + (suc helm.client - clients)) (tick_entries helm heard i) later begins (tick_one clients helm heard i))
 
 -- and what is left of it, with the turns behind
-pub left_late : (clients : ℕ) (names : List (List ℕ)) (helm : Steering) (count whole more : ℕ) (history later : History) (stopped : IsStopped names helm whole (count + 1) (history ++ later)) → HasBegun names helm count history later stopped.left → count ≤ length (heard_of names helm.client (history ++ later))
+pub left_late : (clients : ℕ) (names : List (List ℕ)) (helm : HelmSetup) (count whole more : ℕ) (history later : History) (stopped : IsStopped names helm whole (count + 1) (history ++ later)) → HasBegun names helm count history later stopped.left → count ≤ length (heard_of names helm.client (history ++ later))
     → rises (2 * (count * helm.period) + (suc helm.client - clients))
     (map (moment_in Stamp clients 1) (stopped.left ++ turns_from (answering helm) helm.client helm.period (heard_of names helm.client (history ++ later)) (length (heard_of names helm.client (history ++ later))) more)) ≡ true
 left_late clients names helm count whole more history later stopped begun heard =

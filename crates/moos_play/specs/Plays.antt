@@ -8,21 +8,21 @@ use Rattle.moos_lawful.specs.Schedules.{clients_below, entries_from, Schedule}
 use Rattle.moos_post.specs.declared.entry.Entry.{Entry}
 use Rattle.moos_post.specs.History.{History}
 use Rattle.moos_play.specs.declared.round_made.Round.{Round}
-use Rattle.moos_play.specs.Lawful.{heard_of, helm_number, IsLawful, IsLawfulBeside, iterations, iterations_of, KeepsStamp, known_clients, names_with, Steering, opening_of, ticks_of, ticks_to}
+use Rattle.moos_play.specs.Lawful.{heard_of, helm_number, IsLawful, IsLawfulBeside, iterations, iterations_of, KeepsStamp, known_clients, names_with, HelmSetup, opening_of, ticks_of, ticks_to}
 use Rattle.moos_play.specs.Schedules.{schedule_with}
 use Rattle.script_reader.specs.declared.script.Order.{Order}
 use Rattle.script_reader.specs.declared.script.Order.TheVariants.{Stamp, Race}
 use Rattle.script_reader.specs.declared.script.Script.{Script}
 use Rattle.turn_lock.specs.Passes.{Begins}
 
--- What a run shows: its script, the order in which that is played, the names of the clients, how the helm is run, where there
+-- What a run shows: its script, the order in which that is played, the names of the clients, how the helm is run, if there
 -- is one, and the history so far; how many lines are played and how many ticks the helm has made; the history with which the
 -- database is lent, while it is; and whether each round was played to its end.
 pub record Playing : Type 0 where
   pub script : Script
   pub order : Order
   pub names : List (List ℕ)
-  pub helm : Option Steering
+  pub helm : Option HelmSetup
   pub history : History
   pub played : ℕ
   pub ticks : ℕ
@@ -45,11 +45,11 @@ clients_in play = play.names
 abbrev pub history_in : Playing → History
 history_in play = play.history
 
--- how the helm is run, where there is one
-abbrev pub helm_in : Playing → Option Steering
+-- how the helm is run, if there is one
+abbrev pub helm_in : Playing → Option HelmSetup
 helm_in play = play.helm
 
--- how many of the clients are known from the start: those of the script, and the helm where there is one
+-- how many of the clients are known from the start: those of the script, and the helm if there is one
 abbrev pub known_clients_in : Playing → ℕ
 known_clients_in play = known_clients (script_played play) (helm_in play)
 
@@ -59,7 +59,7 @@ pub record IsFurther (play : Playing) (client : ℕ) : Type 0 where
   pub named : client < length (clients_in play)
 
 -- the iterations of a helm's first ticks, so many, over what it has heard in a history; none without a helm
-abbrev pub iterations_by : List (List ℕ) → History → Option Steering → ℕ → List Iteration
+abbrev pub iterations_by : List (List ℕ) → History → Option HelmSetup → ℕ → List Iteration
 iterations_by names history None ticks = []
 iterations_by names history (Some helm) ticks = iterations_of helm.plan (heard_of names helm.client history) ticks
 
@@ -68,7 +68,7 @@ abbrev pub iterations_made : Playing → List Iteration
 iterations_made play = iterations_by (clients_in play) (history_in play) (helm_in play) play.ticks
 
 -- how many of the helm's ticks up to a stamp are left once so many are made
-abbrev pub ticks_behind : ℕ → Option Steering → ℕ → ℕ
+abbrev pub ticks_behind : ℕ → Option HelmSetup → ℕ → ℕ
 ticks_behind stop None ticks = 0
 ticks_behind stop (Some helm) ticks = ticks_to stop helm - ticks
 
@@ -76,12 +76,12 @@ ticks_behind stop (Some helm) ticks = ticks_to stop helm - ticks
 abbrev pub left_in : Playing → ℕ
 left_in play = length (script_played play).lines - play.played + ticks_behind (script_played play).stop (helm_in play) play.ticks
 
--- the stamp of the helm's next tick once so many are made, where one is left up to a stamp
-abbrev pub tick_at : ℕ → Option Steering → ℕ → Option ℕ
+-- the stamp of the helm's next tick once so many are made, if one is left up to a stamp
+abbrev pub tick_at : ℕ → Option HelmSetup → ℕ → Option ℕ
 tick_at stop None ticks = None
 tick_at stop (Some helm) ticks = if nat_le ticks (stop / helm.period) then Some (ticks * helm.period) else None
 
--- the earlier of two stamps, and another one where there is neither
+-- the earlier of two stamps, and another one if there is neither
 abbrev pub earliest : ℕ → Option ℕ → Option ℕ → ℕ
 earliest stop None None = stop
 earliest stop None (Some line) = line
@@ -107,7 +107,7 @@ schedule_in play = schedule_with (order_played play) (script_played play) (helm_
 abbrev pub IsSeated : Playing → Type 0
 IsSeated play = play.lent ≡ None
 
--- the run stands between two rounds: each was played to its end, and the database isn't lent
+-- the run is between two rounds: each was played to its end, and the database isn't lent
 pub record IsBetween (play : Playing) : Type 0 where
   pub whole : play.whole ≡ true
   pub seated : IsSeated play
@@ -145,17 +145,17 @@ pub record IsRound (before after : Playing) (round : Round) : Type 0 where
   pub finished : IsStampOver after round.stamp
   pub iterations : iterations_made after ≡ iterations_made before ++ round.iterations
 
--- no tick was made, and the next one, where one is left up to this stamp, is later
-pub record HasNoTick (helm : Steering) (stop made : ℕ) (round : Round) : Type 0 where
+-- no tick was made, and the next one, if one is left up to this stamp, is later
+pub record HasNoTick (helm : HelmSetup) (stop made : ℕ) (round : Round) : Type 0 where
   pub none : round.iterations ≡ []
   pub later : made < ticks_to stop helm → round.stamp < made * helm.period
 
 -- the helm's next tick was made, at its stamp
-pub record HasTick (helm : Steering) (made : ℕ) (round : Round) : Type 0 where
+pub record HasTick (helm : HelmSetup) (made : ℕ) (round : Round) : Type 0 where
   pub one : length round.iterations ≡ 1
   pub at : round.stamp ≡ made * helm.period
 
--- A round in order Stamp: nothing is left or what is next has a later stamp, and the helm, where there is one, has made no
+-- A round in order Stamp: nothing is left or what is next has a later stamp, and the helm, if there is one, has made no
 -- tick or just its next one.
 pub record IsTurn (before after : Playing) (round : Round) : Type 0 where
   pub later : (left_in after ≡ 0) ⊎ (round.stamp < next_stamp after)
@@ -168,11 +168,11 @@ HasTurn Race before after round = Unit {0}
 
 -- the helm's entries in a history are its opening and those of so many ticks over what it has heard there, which are as many
 -- mails
-pub record HasTicked (names : List (List ℕ)) (helm : Steering) (count : ℕ) (history : History) : Type 0 where
+pub record HasTicked (names : List (List ℕ)) (helm : HelmSetup) (count : ℕ) (history : History) : Type 0 where
   pub own : entries_of helm.client history ≡ opening_of helm ++ ticks_of helm (heard_of names helm.client history) count
   pub many : length (heard_of names helm.client history) ≡ count
 
--- so the helm of a run, where there is one, has made as many ticks as there are iterations
+-- so the helm of a run, if there is one, has made as many ticks as there are iterations
 abbrev pub HasSteeredSoFar : Playing → Type 0
 HasSteeredSoFar play = IfSome (helm_in play) (λ helm. HasTicked (clients_in play) helm (length (iterations_made play)) (history_in play))
 
@@ -181,7 +181,7 @@ abbrev pub KeepsLeft : Order → ℕ → List Entry → Type 0
 KeepsLeft Stamp stamp left = IsTrue (list_all (λ entry. nat_le stamp entry.stamp) left)
 KeepsLeft Race stamp left = Unit {0}
 
--- What is left for a client of a run between two rounds: nothing where nothing is left of the run, and in order Stamp nothing that is
+-- What is left for a client of a run between two rounds: nothing if nothing is left of the run, and in order Stamp nothing that is
 -- before the next stamp.
 pub record IsLeft (play : Playing) (left : List Entry) : Type 0 where
   pub none : left_in play ≡ 0 → left ≡ []
@@ -189,12 +189,12 @@ pub record IsLeft (play : Playing) (left : List Entry) : Type 0 where
 
 -- a helm that is run for a script: its number is behind those of the script's clients, it has a period, and of its ticks up
 -- to the last stamp it has made so many
-pub record IsRunFor (script : Script) (made : ℕ) (helm : Steering) : Type 0 where
+pub record IsRunFor (script : Script) (made : ℕ) (helm : HelmSetup) : Type 0 where
   pub client : helm.client ≡ helm_number script
   pub period : 1 ≤ helm.period
   pub few : made ≤ ticks_to script.stop helm
 
--- A run in which nothing is left: its history is lawful beside the entries of further clients, by itself where there are
+-- A run in which nothing is left: its history is lawful beside the entries of further clients, by itself if there are
 -- none, and its iterations are those of this history.
 pub record IsPlayedOut (play : Playing) : Type 0 where
   pub lawful : IsLawfulBeside (order_played play) (script_played play) (helm_in play) (clients_in play) (history_in play)
@@ -202,7 +202,7 @@ pub record IsPlayedOut (play : Playing) : Type 0 where
   pub iterations : iterations_made play ≡ iterations (helm_in play) (script_played play).stop (heard_of (clients_in play) (helm_number (script_played play)) (history_in play))
 
 -- A run that may yet be completed: with some entries more, none of them a further client's, its history is lawful beside the
--- entries of further clients, by itself where there are none, and the iterations of that history are those so far and some
+-- entries of further clients, by itself if there are none, and the iterations of that history are those so far and some
 -- more.
 pub record HasCompletion (play : Playing) : Type 0 where
   pub rest : History

@@ -1,4 +1,4 @@
--- The helm at its seat, and where a run stands between two rounds.
+-- The helm at its seat, and where a run is between two rounds.
 use Rattle.std.specs.Prelude.{◌≡◌, ◌⊎◌, ℕ, ◌+◌, ◌-◌, ◌*◌, ◌^◌, ◌==◌, ◌≤◌, ◌<◌, Bool, false, nat_lt, if◌then◌else◌, List, [], ◌∷◌, ◌++◌, length, drop, take, Option, None, Some, option_map, IfSome, IsTrue, OnErr, OnOk, Result}
 use Rattle.std.specs.List.{list_all}
 use Rattle.moos_post.specs.History.{History}
@@ -13,24 +13,24 @@ use Rattle.moos_lawful.specs.Answering.{turns_from}
 use Rattle.moos_lawful.specs.Schedules.{IsLawfulSoFar}
 use Rattle.moos_play.specs.Plays.{tick_at}
 use Rattle.moos_play.specs.Schedules.{answerers, answering, schedule_with}
-use Rattle.moos_play.specs.declared.steersman.Steersman.{Steersman}
-use Rattle.moos_play.specs.Lawful.{Steering, heard_of, helm_number, iterations_of, opening, opening_of, ticks_of, ticks_to}
+use Rattle.moos_play.specs.declared.helm_client.HelmClient.{HelmClient}
+use Rattle.moos_play.specs.Lawful.{HelmSetup, heard_of, helm_number, iterations_of, opening, opening_of, ticks_of, ticks_to}
 use Rattle.moos_step.specs.Steps.{Anything, CommunityLock, GoesOn, IsGathered, IsWhole, Makes}
 use Rattle.script_reader.specs.declared.script.Order.{Order}
 use Rattle.script_reader.specs.declared.script.Script.{Script}
 use Rattle.turn_lock.specs.Passes.{Begins}
 
--- how a steersman runs its helm
-abbrev pub steering_of : Steersman → Steering
-steering_of steersman = record { client = steersman.number; plan = plan_of steersman.helm; period = steersman.period }
+-- how a helm's client runs its helm
+abbrev pub helm_setup_of : HelmClient → HelmSetup
+helm_setup_of helm_client = record { client = helm_client.number; plan = plan_of helm_client.helm; period = helm_client.period }
 
 -- After its ticks so far a helm stands for what it has heard in a history, its entries there are its opening and those of
 -- the ticks, and its iterations are those behind the ones that were handed out.
-pub record Steers (names : List (List ℕ)) (s : Steersman) (history : History) : Type 0 where
+pub record Steers (names : List (List ℕ)) (s : HelmClient) (history : History) : Type 0 where
   pub clock : clock_of s.helm ≤ s.ticks * s.period
   pub stands : StandsFor s.helm (heard_of names s.number history)
   pub many : length (heard_of names s.number history) ≡ s.ticks
-  pub own : entries_of s.number history ≡ opening_of (steering_of s) ++ ticks_of (steering_of s) (heard_of names s.number history) s.ticks
+  pub own : entries_of s.number history ≡ opening_of (helm_setup_of s) ++ ticks_of (helm_setup_of s) (heard_of names s.number history) s.ticks
   pub same : s.iterations ≡ drop (s.ticks - length s.iterations) (iterations_of (plan_of s.helm) (heard_of names s.number history) s.ticks)
 
 -- the history of the seat has of its own number just the seat's entries
@@ -48,21 +48,21 @@ abbrev pub MayHaveCalled : SeatState → SeatState → ℕ → Call → Type 0
 MayHaveCalled before after stamp call = IsUncalled before after ⊎ IsCalled before after stamp call
 
 -- the helm may make its ticks up to so many behind a history, with 1 to 16 workers for what it solves
-pub record MayTick (names : List (List ℕ)) (s : Steersman) (history : History) (ticks workers : ℕ) : Type 0 where
+pub record MayTick (names : List (List ℕ)) (s : HelmClient) (history : History) (ticks workers : ℕ) : Type 0 where
   pub steered : Steers names s history
   pub count : s.ticks ≤ ticks
   pub early : ticks * s.period < 2 ^ 64 + s.period
   pub few : (1 ≤ workers) × (workers ≤ 16)
 
 -- the same at its seat
-pub record MaySteer (lock : CommunityLock) (seat : SeatState) (s : Steersman) (ticks workers : ℕ) : Type 0 where
+pub record MaySteer (lock : CommunityLock) (seat : SeatState) (s : HelmClient) (ticks workers : ℕ) : Type 0 where
   pub may : MayCall lock seat
   pub number : seat.number ≡ s.number
   pub own : HasOwn seat
   pub tick : MayTick lock.base s seat.seen ticks workers
 
--- the same where the first seat has taken in all others, the helm's too
-pub record MayLead (lock : CommunityLock) (first : SeatState) (s : Steersman) (ticks workers : ℕ) : Type 0 where
+-- the same if the first seat has taken in all others, the helm's too
+pub record MayLead (lock : CommunityLock) (first : SeatState) (s : HelmClient) (ticks workers : ℕ) : Type 0 where
   pub gathered : IsGathered lock first
   pub whole : IsWhole first
   pub client : s.number < length lock.base
@@ -70,90 +70,90 @@ pub record MayLead (lock : CommunityLock) (first : SeatState) (s : Steersman) (t
 
 -- A helm that found no memory behind so many whole ticks, between two ticks or within one. With what is left of that tick its
 -- entries in a history are its opening and those of as many ticks as it has heard there, which are no more than so many.
-pub record IsStopped (names : List (List ℕ)) (helm : Steering) (whole most : ℕ) (history : History) : Type 0 where
+pub record IsStopped (names : List (List ℕ)) (helm : HelmSetup) (whole most : ℕ) (history : History) : Type 0 where
   pub left : List Entry
   pub own : entries_of helm.client history ++ left ≡ opening_of helm ++ ticks_of helm (heard_of names helm.client history) (length (heard_of names helm.client history))
   pub made : whole ≤ length (heard_of names helm.client history)
   pub few : length (heard_of names helm.client history) ≤ most
 
 -- the same of the helm at its seat, in what the seat had seen when its last call was made
-pub record HasStopped (names : List (List ℕ)) (helm : Steering) (whole most : ℕ) (seat : SeatState) : Type 0 where
+pub record HasStopped (names : List (List ℕ)) (helm : HelmSetup) (whole most : ℕ) (seat : SeatState) : Type 0 where
   pub before : History
   pub later : Begins seat.seen before
   pub own : entries_of seat.number before ≡ seat.mine
   pub stopped : IsStopped names helm whole most before
 
 -- how many ticks the helm has made, none without one
-abbrev pub ticks_in : Option Steersman → ℕ
+abbrev pub ticks_in : Option HelmClient → ℕ
 ticks_in None = 0
-ticks_in (Some steersman) = steersman.ticks
+ticks_in (Some helm_client) = helm_client.ticks
 
 -- the helm's iterations that weren't handed out, none without a helm
-abbrev pub iterations_in : Option Steersman → List Iteration
+abbrev pub iterations_in : Option HelmClient → List Iteration
 iterations_in None = []
-iterations_in (Some steersman) = steersman.iterations
+iterations_in (Some helm_client) = helm_client.iterations
 
 -- the helm keeps an iteration a tick
-abbrev pub KeepsEach : Option Steersman → Option Steersman → Type 0
+abbrev pub KeepsEach : Option HelmClient → Option HelmClient → Type 0
 KeepsEach before after = length (iterations_in after) + ticks_in before ≡ length (iterations_in before) + ticks_in after
 
--- The helm has made its ticks at the seat up to so many, or has stopped on the way where it found no memory.
-pub record HasSteered {E : Type 0} (lock : CommunityLock) (ticks : ℕ) (before after : SeatState) (old new : Steersman) (result : Result (Unit {0}) E) : Type 0 where
+-- The helm has made its ticks at the seat up to so many, or has stopped on the way if it found no memory.
+pub record HasSteered {E : Type 0} (lock : CommunityLock) (ticks : ℕ) (before after : SeatState) (old new : HelmClient) (result : Result (Unit {0}) E) : Type 0 where
   pub made : Makes Anything before after
-  pub same : steering_of new ≡ steering_of old
+  pub same : helm_setup_of new ≡ helm_setup_of old
   pub told : OnOk result (KeepsEach (Some old) (Some new))
   pub own : OnOk result (HasOwn after)
   pub steered : OnOk result (Steers lock.base new after.seen)
   pub reached : OnOk result (new.ticks ≡ ticks)
-  pub stopped : OnErr result (HasStopped lock.base (steering_of old) new.ticks ticks after)
+  pub stopped : OnErr result (HasStopped lock.base (helm_setup_of old) new.ticks ticks after)
 
--- the same in what the first seat has seen once it has all others again, where the clients may make some entries too
-pub record HasLed {E : Type 0} (lock : CommunityLock) (may : ℕ → List Entry → Type 0) (ticks : ℕ) (before after : SeatState) (old new : Steersman) (result : Result (Unit {0}) E) : Type 0 where
+-- the same in what the first seat has seen once it has all others again, if the clients may make some entries too
+pub record HasLed {E : Type 0} (lock : CommunityLock) (may : ℕ → List Entry → Type 0) (ticks : ℕ) (before after : SeatState) (old new : HelmClient) (result : Result (Unit {0}) E) : Type 0 where
   pub gathered : IsGathered lock after
   pub goes_on : GoesOn may before after
-  pub same : steering_of new ≡ steering_of old
+  pub same : helm_setup_of new ≡ helm_setup_of old
   pub told : OnOk result (KeepsEach (Some old) (Some new))
   pub steered : OnOk result (Steers lock.base new after.seen)
   pub reached : OnOk result (new.ticks ≡ ticks)
-  pub stopped : OnErr result (IsStopped lock.base (steering_of old) new.ticks ticks after.seen)
+  pub stopped : OnErr result (IsStopped lock.base (helm_setup_of old) new.ticks ticks after.seen)
 
--- the helm that is run, where one is
-abbrev pub helm_of : Option Steersman → Option Steering
-helm_of steersman = option_map steering_of steersman
+-- the helm that is run, if one is
+abbrev pub helm_of : Option HelmClient → Option HelmSetup
+helm_of helm_client = option_map helm_setup_of helm_client
 
--- the turns that are left for the helm, where there is one, over what it has heard
-abbrev pub turns_left : ℕ → Option Steersman → List (List ℕ) → History → List Entry
+-- the turns that are left for the helm, if there is one, over what it has heard
+abbrev pub turns_left : ℕ → Option HelmClient → List (List ℕ) → History → List Entry
 turns_left stop None names history = []
-turns_left stop (Some steersman) names history =
-    turns_from (answering (steering_of steersman)) steersman.number steersman.period (heard_of names steersman.number history) steersman.ticks (ticks_to stop (steering_of steersman) - steersman.ticks)
+turns_left stop (Some helm_client) names history =
+    turns_from (answering (helm_setup_of helm_client)) helm_client.number helm_client.period (heard_of names helm_client.number history) helm_client.ticks (ticks_to stop (helm_setup_of helm_client) - helm_client.ticks)
 
 -- what is left for a client once so many lines are played
-abbrev pub left_for : Script → Option Steersman → List (List ℕ) → ℕ → History → ℕ → List Entry
-left_for script steersman names from history n =
-    if nat_lt n (length script.names) then entries_of n (drop from script.lines) else turns_left script.stop steersman names history
+abbrev pub left_for : Script → Option HelmClient → List (List ℕ) → ℕ → History → ℕ → List Entry
+left_for script helm_client names from history n =
+    if nat_lt n (length script.names) then entries_of n (drop from script.lines) else turns_left script.stop helm_client names history
 
--- how many clients have a part: those of the script, and the helm where there is one
-abbrev pub parts : Script → Option Steersman → ℕ
-parts script steersman = length script.names + length (answerers (helm_of steersman))
+-- how many clients have a part: those of the script, and the helm if there is one
+abbrev pub parts : Script → Option HelmClient → ℕ
+parts script helm_client = length script.names + length (answerers (helm_of helm_client))
 
 -- A history that is lawful so far, in which just so many lines are played and the helm has made all its ticks so far.
-pub record HasPlayed (order : Order) (script : Script) (names : List (List ℕ)) (steersman : Option Steersman) (from : ℕ) (history : History) : Type 0 where
-  pub so_far : IsLawfulSoFar (schedule_with order script (helm_of steersman) names) history
-  pub left : (n : ℕ) → n < parts script steersman → so_far.left n ≡ left_for script steersman names from history n
+pub record HasPlayed (order : Order) (script : Script) (names : List (List ℕ)) (helm_client : Option HelmClient) (from : ℕ) (history : History) : Type 0 where
+  pub so_far : IsLawfulSoFar (schedule_with order script (helm_of helm_client) names) history
+  pub left : (n : ℕ) → n < parts script helm_client → so_far.left n ≡ left_for script helm_client names from history n
 
 -- A run between two steps, in which so many lines are played: the first seat has taken in all others, and has seen a history
 -- that is lawful so far.
-pub record IsUnderWay (order : Order) (script : Script) (lock : CommunityLock) (steersman : Option Steersman) (from : ℕ) (first : SeatState) : Type 0 where
+pub record IsUnderWay (order : Order) (script : Script) (lock : CommunityLock) (helm_client : Option HelmClient) (from : ℕ) (first : SeatState) : Type 0 where
   pub gathered : IsGathered lock first
   pub whole : IsWhole first
   pub within : from ≤ length script.lines
-  pub seats : parts script steersman ≤ length lock.base
-  pub played : HasPlayed order script lock.base steersman from first.seen
-  pub steered : IfSome steersman (λ s. (s.number ≡ helm_number script) × Steers lock.base s first.seen)
+  pub seats : parts script helm_client ≤ length lock.base
+  pub played : HasPlayed order script lock.base helm_client from first.seen
+  pub steered : IfSome helm_client (λ s. (s.number ≡ helm_number script) × Steers lock.base s first.seen)
 
--- the stamp of the helm's next tick, where one is left up to this stamp
-abbrev pub tick_due : ℕ → Option Steersman → Option ℕ
-tick_due stop steersman = tick_at stop (helm_of steersman) (ticks_in steersman)
+-- the stamp of the helm's next tick, if one is left up to this stamp
+abbrev pub tick_due : ℕ → Option HelmClient → Option ℕ
+tick_due stop helm_client = tick_at stop (helm_of helm_client) (ticks_in helm_client)
 
 -- there is a tick, and it is before a stamp
 abbrev pub comes_before : Option ℕ → ℕ → Bool
@@ -165,7 +165,7 @@ abbrev pub IsBehind : Option ℕ → List Entry → Type 0
 IsBehind tick [] = Unit {0}
 IsBehind tick (line ∷ lines) = IsTrue (comes_before tick line.stamp)
 
--- The lines from one place to another come next: they have one stamp, which is not above the tick's. Where there are none
+-- The lines from one place to another come next: they have one stamp, which is not above the tick's. If there are none
 -- the tick comes next.
 pub record IsDue (lines : List Entry) (tick : Option ℕ) (from to : ℕ) : Type 0 where
   pub more : from ≤ to
@@ -176,15 +176,15 @@ pub record IsDue (lines : List Entry) (tick : Option ℕ) (from to : ℕ) : Type
   pub next : from ≡ to → IsBehind tick (drop from lines)
 
 -- a helm that has heard nothing yet, and made no tick
-pub record IsUnticked (steersman : Steersman) : Type 0 where
-  pub ticks : steersman.ticks ≡ 0
-  pub iterations : steersman.iterations ≡ []
-  pub stands : StandsFor steersman.helm []
-  pub period : 1 ≤ steersman.period
+pub record IsUnticked (helm_client : HelmClient) : Type 0 where
+  pub ticks : helm_client.ticks ≡ 0
+  pub iterations : helm_client.iterations ≡ []
+  pub stands : StandsFor helm_client.helm []
+  pub period : 1 ≤ helm_client.period
 
--- before the first round: the helm, where there is one, has made its opening, and nobody else an entry
-pub record HasOpened (lock : CommunityLock) (steersman : Option Steersman) (first : SeatState) : Type 0 where
+-- before the first round: the helm, if there is one, has made its opening, and nobody else an entry
+pub record HasOpened (lock : CommunityLock) (helm_client : Option HelmClient) (first : SeatState) : Type 0 where
   pub gathered : IsGathered lock first
   pub whole : IsWhole first
-  pub opened : first.seen ≡ opening (helm_of steersman)
-  pub new : IfSome steersman IsUnticked
+  pub opened : first.seen ≡ opening (helm_of helm_client)
+  pub new : IfSome helm_client IsUnticked

@@ -4,9 +4,9 @@ ghost use Rattle.moos_play.specs.Plays.{earliest, IsStampOver, left_in, next_sta
 ghost use Rattle.moos_play.specs.Steered.{iterations_in};
 ghost use Rattle.moos_play.specs.Runs.{handed, HasAllSeats, HasPlayedOn, MayGoOn, shown_by};
 
+use crate::helm_client::Iterations;
 use crate::stage::Stage;
 use crate::stamps::tick_due;
-use crate::steersman::Iterations;
 use moos_io::Gate;
 use moos_post::{Entry, List, NoMemory};
 use script_reader::Order;
@@ -16,7 +16,7 @@ use std::sync::Wait;
 use std::thread::Threads;
 
 impl<'a> Stage<'a> {
-    /// Plays all that is next at its stamp, and answers false where nothing was left.
+    /// Plays all that is next at its stamp, and answers false if nothing was left.
     pub(crate) fn play_stamp<R: Threads + Wait + Sync, G: Gate>(
         &mut self,
         rt: &R,
@@ -76,14 +76,14 @@ impl<'a> Stage<'a> {
 
     /// The stamp of the next round.
     pub(crate) fn next_stamp(&self) -> u64
-        requires { IfSome self.now.steersman (λ helm. 1 ≤ helm.period) }
+        requires { IfSome self.now.helm_client (λ helm. 1 ≤ helm.period) }
         ensures { result ≡ next_stamp (shown_by self.now) }
     {
         let stop = self.script.stop;
         match self.order {
             Order::Race => stop,
             Order::Stamp => {
-                let tick = tick_due(&self.steersman, stop);
+                let tick = tick_due(&self.helm_client, stop);
                 earliest(stop, tick, stamp_at(self.script.lines.all(), self.from))
             }
         }
@@ -91,17 +91,17 @@ impl<'a> Stage<'a> {
 
     /// The helm's iterations since the last round.
     pub(crate) fn hand_out(&mut self, alloc: Global) -> Iterations
-        ensures untold { result ≡ iterations_in self.old.steersman }
+        ensures untold { result ≡ iterations_in self.old.helm_client }
         ensures told { self.new ≡ handed self.old }
     {
-        match &mut self.steersman {
+        match &mut self.helm_client {
             None => List::new(alloc),
-            Some(steersman) => mem::replace(&mut steersman.iterations, List::new(alloc)),
+            Some(helm_client) => mem::replace(&mut helm_client.iterations, List::new(alloc)),
         }
     }
 }
 
-// The stamp of the line at this place, where there is one.
+// The stamp of the line at this place, if there is one.
 fn stamp_at(lines: &[Entry], place: usize) -> Option<u64>
     ensures { result ≡ option_map (λ line. line.stamp) (slice_get lines.now place) }
 {
@@ -112,7 +112,7 @@ fn stamp_at(lines: &[Entry], place: usize) -> Option<u64>
     }
 }
 
-// The earlier of two stamps, and `stop` where there is neither.
+// The earlier of two stamps, and `stop` if there is neither.
 fn earliest(stop: u64, tick: Option<u64>, line: Option<u64>) -> u64
     ensures { result ≡ earliest stop tick line }
 {

@@ -12,8 +12,8 @@ use std::alloc::Global;
 use std::sync::Wait;
 
 impl<'a> Play<'a> {
-    /// Makes one call of a further client, at whatever stamp. The mail is empty unless the client fetches. Where no memory is
-    /// left there is no entry, and the run stands as it stood.
+    /// Makes one call of a further client, at whatever stamp. The mail is empty unless the client fetches. If no memory is
+    /// left there is no entry, and the run is as it stood.
     pub fn enter<R: Wait>(
         &mut self,
         rt: &R,

@@ -1,13 +1,13 @@
 // A script that is played round by round, as its player sees it.
 ghost use Rattle.std.specs.Prelude.{◌≡◌, ◌<◌, ◌≤◌, ◌++◌, ◌^◌, ℕ, [], length, option_map, IfNone, IfOk, IfSome, OnErr, OnOk};
 ghost use Rattle.moos_lawful.specs.Schedules.{IsLawfulSoFar};
-ghost use Rattle.moos_play.specs.Lawful.{MayStart, names_with, opening, steering_with};
+ghost use Rattle.moos_play.specs.Lawful.{MayStart, names_with, opening, helm_setup_with};
 ghost use Rattle.moos_play.specs.Plays.{AddsAt, clients_in, GoesOnWith, HasCompletion, HasSteeredSoFar, HasTurn, helm_in, history_in, IsBetween, IsLeft, IsLentAs, IsPlayedOut, IsRound, IsRunFor, IsSeated, iterations_made, known_clients_in, left_in, next_stamp, order_played, returned, schedule_in, script_played, StaysSeated};
 ghost use Rattle.script_reader.specs.Validity.{IsValid};
 
 use crate::round_made::Round;
 use crate::run::{HelmRun, Ran};
-use crate::seats::{open_all, seats_for, steersman_for};
+use crate::seats::{helm_client_for, open_all, seats_for};
 use crate::stage::Stage;
 use moos_db::Db;
 use moos_io::Gate;
@@ -46,8 +46,8 @@ impl<'a> Model for Play<'a> {
 }
 
 impl<'a> Play<'a> {
-    /// A run of this script that has yet to play its first line. The helm, where there is one, has made its opening. The
-    /// further clients have the numbers behind the helm's, or behind those of the script's clients where there is no helm.
+    /// A run of this script that has yet to play its first line. The helm, if there is one, has made its opening. The
+    /// further clients have the numbers behind the helm's, or behind those of the script's clients if there is no helm.
     pub fn make<R: Threads + Wait + Sync, G: Gate>(
         rt: &R,
         alloc: Global,
@@ -63,13 +63,13 @@ impl<'a> Play<'a> {
         ensures script { IfOk result (λ play. script_played play ≡ script.now) }
         ensures order { IfOk result (λ play. order_played play ≡ order) }
         ensures names { IfOk result (λ play. clients_in play ≡ names_with script.now helm ++ further) }
-        ensures helm { IfOk result (λ play. helm_in play ≡ option_map (steering_with script.now) helm) }
+        ensures helm { IfOk result (λ play. helm_in play ≡ option_map (helm_setup_with script.now) helm) }
         ensures begun { IfOk result (λ play. history_in play ≡ opening (helm_in play)) }
         ensures between { IfOk result IsBetween }
     {
         let (lock, mut seat, calls) = seats_for(alloc, script, &helm, &further)?;
-        let mut steersman = steersman_for(alloc, script, helm);
-        open_all(rt, alloc, &lock, &mut seat, &mut steersman, gate)?;
+        let mut helm_client = helm_client_for(alloc, script, helm);
+        open_all(rt, alloc, &lock, &mut seat, &mut helm_client, gate)?;
         let first = Player {
             seat,
             calls: 0,
@@ -79,7 +79,7 @@ impl<'a> Play<'a> {
             script,
             lock,
             first,
-            steersman,
+            helm_client,
             calls,
             from: 0,
             order,
@@ -88,7 +88,7 @@ impl<'a> Play<'a> {
     }
 
     /// Plays the next round: in order Stamp the lines and the tick of the next stamp, and in order Race everything. None
-    /// where nothing is left. After want of memory the history is lawful so far still, perhaps within a round, and only `hold`,
+    /// if nothing is left. After want of memory the history is lawful so far still, perhaps within a round, and only `hold`,
     /// `put_back` and `end` may be called. There are 1 to 16 workers for what the helm solves.
     pub fn round<R: Threads + Wait + Sync, G: Gate>(
         &mut self,
@@ -152,7 +152,7 @@ impl<'a> Play<'a> {
     }
 
     /// The law of a run between two rounds: its history is lawful so far; with some entries more it is lawful, and the helm's
-    /// iterations so far are the first of those of that history; and the helm, where there is one, has made as many ticks as there
+    /// iterations so far are the first of those of that history; and the helm, if there is one, has made as many ticks as there
     /// are iterations, which are some of its ticks up to the script's last stamp; and what is left for each client isn't before the next
     /// round. It does nothing.
     pub fn front_law(&self)

@@ -1,5 +1,5 @@
 // What a round was.
-use crate::steersman::Iterations;
+use crate::helm_client::Iterations;
 
 /// A round that was played.
 #[derive(Drop)]

@@ -1,14 +1,14 @@
 // The whole of a run, round by round.
 ghost use Rattle.std.specs.Prelude.{◌≡◌, ◌≤◌, option_map, IfOk, IfSome, OnOk};
-ghost use Rattle.moos_play.specs.Lawful.{heard_of, helm_number, MayStart, IsLawful, iterations, names_with, steering_with};
+ghost use Rattle.moos_play.specs.Lawful.{heard_of, helm_number, MayStart, IsLawful, iterations, names_with, helm_setup_with};
 ghost use Rattle.moos_play.specs.Plays.{GoesOnWith, left_in};
 ghost use Rattle.moos_play.specs.Runs.{IsAtPlay, KeepsSeats, MayGoOn, shown_by};
 ghost use Rattle.moos_play.specs.Steered.{KeepsEach};
 ghost use Rattle.script_reader.specs.Validity.{IsValid};
 
+use crate::helm_client::Iterations;
 use crate::playing::Play;
 use crate::stage::Stage;
-use crate::steersman::Iterations;
 use helm_core::Helm;
 use moos_db::Db;
 use moos_io::Gate;
@@ -36,12 +36,12 @@ pub struct Ran {
     pub iterations: Iterations,
 }
 
-/// Plays a script, and runs a helm beside its clients where one is given.
+/// Plays a script, and runs a helm beside its clients if one is given.
 ///
-/// The clients have the numbers in which their names stand, and make their calls on threads of their own. The helm has the
+/// The clients have the numbers in which their names are, and make their calls on threads of their own. The helm has the
 /// number behind them and the name `pHelmIvP`. It opens before any thread starts: it registers for what it wants, and posts
-/// the pairs to begin with, where there are any, both at stamp 0. It ticks at each multiple of its period from 0 up to the
-/// script's last stamp: it fetches and posts, also where it has nothing to post.
+/// the pairs to begin with, if there are any, both at stamp 0. It ticks at each multiple of its period from 0 up to the
+/// script's last stamp: it fetches and posts, also if it has nothing to post.
 ///
 /// In order Stamp there is a step for each stamp at which there are lines, and a tick follows the clients of its stamp. In
 /// order Race each client plays its whole script and the helm makes all its ticks, beside each other. The gate is called
@@ -59,9 +59,9 @@ pub fn play<R: Threads + Wait + Sync, G: Gate>(
     requires helm { IfSome helm MayStart }
     requires workers { (1 ≤ workers) × (workers ≤ 16) }
     ensures names { IfOk result (λ ran. ran.db.names ≡ names_with script.now helm) }
-    ensures lawful { let helm = option_map (steering_with script.now) helm in
+    ensures lawful { let helm = option_map (helm_setup_with script.now) helm in
         IfOk result (λ ran. IsLawful order script.now helm ran.db.names ran.db.history) }
-    ensures iterations { let helm = option_map (steering_with script.now) helm in
+    ensures iterations { let helm = option_map (helm_setup_with script.now) helm in
         IfOk result (λ ran. ran.iterations ≡ iterations helm script.now.stop (heard_of ran.db.names (helm_number script.now) ran.db.history)) }
 {
     let play = Play::make(rt, alloc, script, helm, List::new(alloc), order, gate)?;
@@ -84,7 +84,7 @@ fn play_out<R: Threads + Wait + Sync, G: Gate>(
     ensures seated { KeepsSeats run.old run.new }
     ensures at_play { OnOk result (IsAtPlay run.new) }
     ensures same { OnOk result (GoesOnWith (shown_by run.old) (shown_by run.new)) }
-    ensures told { OnOk result (KeepsEach run.old.steersman run.new.steersman) }
+    ensures told { OnOk result (KeepsEach run.old.helm_client run.new.helm_client) }
     ensures over { OnOk result (left_in (shown_by run.new) ≡ 0) }
 {
     while run.go_on(rt, alloc, workers, gate)? {}

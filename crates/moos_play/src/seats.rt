@@ -1,11 +1,11 @@
 // How a run begins: its names, a seat for each client, and the helm with its opening.
 ghost use Rattle.std.specs.Prelude.{◌≡◌, ◌<◌, ◌≤◌, ◌++◌, ◌^◌, codes, length, option_map, IfOk, OnOk, IfSome};
-ghost use Rattle.moos_play.specs.Lawful.{helm_number, MayStart, names_with, opening_of, steering_with};
+ghost use Rattle.moos_play.specs.Lawful.{helm_number, MayStart, names_with, opening_of, helm_setup_with};
 ghost use Rattle.moos_step.specs.Steps.{IsGathered, IsWhole, KnowsNothing};
-ghost use Rattle.moos_play.specs.Steered.{HasOpened, helm_of, IsUnticked, steering_of};
+ghost use Rattle.moos_play.specs.Steered.{HasOpened, helm_of, IsUnticked, helm_setup_of};
 
+use crate::helm_client::{HelmClient, count_call};
 use crate::run::HelmRun;
-use crate::steersman::{Steersman, count_call};
 use moos_client::{Lock, Seat};
 use moos_db::Db;
 use moos_io::Gate;
@@ -41,7 +41,7 @@ pub(crate) fn seats_for(
     Ok((lock, seat, calls))
 }
 
-// How many passes there are: one for each client, and one where there is none.
+// How many passes there are: one for each client, and one if there is none.
 fn passes_for(names: &Names) -> u32
     requires { length names.now < 2 ^ 32 }
     ensures some { 0 < result }
@@ -52,7 +52,7 @@ fn passes_for(names: &Names) -> u32
     if clients == 0 { 1 } else { clients }
 }
 
-// The names of all clients: the script's, then the helm's where there is one, and then the further ones.
+// The names of all clients: the script's, then the helm's if there is one, and then the further ones.
 fn names_for(
     alloc: Global,
     script: &Script,
@@ -76,7 +76,7 @@ fn add_names(alloc: Global, names: &mut Names, more: &[Name]) -> Result<(), NoMe
     Ok(())
 }
 
-// The names of the script's clients, and then the helm's where there is one.
+// The names of the script's clients, and then the helm's if there is one.
 fn known_names(alloc: Global, script: &Script, helm: &Option<HelmRun>) -> Result<Names, NoMemory>
     ensures { IfOk result (λ names. names ≡ names_with script.now helm.now) }
 {
@@ -98,19 +98,19 @@ fn helm_name(alloc: Global) -> Result<Name, NoMemory>
     }
 }
 
-/// The helm, where there is one, with the number behind the script's clients and nothing done yet.
-pub(crate) fn steersman_for(
+/// The helm, if there is one, with the number behind the script's clients and nothing done yet.
+pub(crate) fn helm_client_for(
     alloc: Global,
     script: &Script,
     helm: Option<HelmRun>,
-) -> Option<Steersman>
+) -> Option<HelmClient>
     requires few { helm_number script.now < 2 ^ 32 }
     requires helm { IfSome helm MayStart }
-    ensures helm { helm_of result ≡ option_map (steering_with script.now) helm }
+    ensures helm { helm_of result ≡ option_map (helm_setup_with script.now) helm }
     ensures new { IfSome result IsUnticked }
 {
     let HelmRun { helm, period } = helm?;
-    Some(Steersman {
+    Some(HelmClient {
         helm,
         number: script.names.len() as u32,
         period,
@@ -131,51 +131,51 @@ fn no_calls(alloc: Global, clients: usize) -> Result<Vec<u64>, NoMemory>
     Ok(calls)
 }
 
-/// Has the helm, where there is one, make its opening.
+/// Has the helm, if there is one, make its opening.
 pub(crate) fn open_all<R: Wait, G: Gate>(
     rt: &R,
     alloc: Global,
     lock: &Lock,
     first: &mut Seat,
-    steersman: &mut Option<Steersman>,
+    helm_client: &mut Option<HelmClient>,
     gate: &G,
 ) -> Result<(), NoMemory>
     requires gathered { IsGathered lock.now first.old }
     requires nothing { KnowsNothing first.old }
-    requires new { IfSome steersman.old (λ helm. IsUnticked helm × (helm.number < length lock.now.base)) }
-    ensures same { OnOk result (helm_of steersman.new ≡ helm_of steersman.old) }
-    ensures opened { OnOk result (HasOpened lock.now steersman.new first.new) }
+    requires new { IfSome helm_client.old (λ helm. IsUnticked helm × (helm.number < length lock.now.base)) }
+    ensures same { OnOk result (helm_of helm_client.new ≡ helm_of helm_client.old) }
+    ensures opened { OnOk result (HasOpened lock.now helm_client.new first.new) }
 {
-    if let Some(steersman) = steersman {
-        open(rt, alloc, lock, first, steersman, gate)?;
+    if let Some(helm_client) = helm_client {
+        open(rt, alloc, lock, first, helm_client, gate)?;
     }
     Ok(())
 }
 
-// The helm registers for what it wants, and posts the pairs to begin with, where there are any, both at stamp 0.
+// The helm registers for what it wants, and posts the pairs to begin with, if there are any, both at stamp 0.
 fn open<R: Wait, G: Gate>(
     rt: &R,
     alloc: Global,
     lock: &Lock,
     first: &mut Seat,
-    steersman: &mut Steersman,
+    helm_client: &mut HelmClient,
     gate: &G,
 ) -> Result<(), NoMemory>
     requires gathered { IsGathered lock.now first.old }
     requires whole { IsWhole first.old }
-    requires client { steersman.old.number < length lock.now.base }
+    requires client { helm_client.old.number < length lock.now.base }
     ensures gathered { IsGathered lock.now first.new }
     ensures whole { IsWhole first.new }
-    ensures same { steersman.new ≡ record steersman.old { calls = steersman.new.calls } }
-    ensures opened { OnOk result (first.new.seen ≡ first.old.seen ++ opening_of (steering_of steersman.old)) }
+    ensures same { helm_client.new ≡ record helm_client.old { calls = helm_client.new.calls } }
+    ensures opened { OnOk result (first.new.seen ≡ first.old.seen ++ opening_of (helm_setup_of helm_client.old)) }
 {
-    count_call(steersman, gate);
-    let wants = steersman.helm.wants(alloc)?;
-    let number = steersman.number;
+    count_call(helm_client, gate);
+    let wants = helm_client.helm.wants(alloc)?;
+    let number = helm_client.number;
     call_alone(rt, alloc, lock, first, number, 0, Call::Register(wants))?;
-    let pairs = steersman.helm.opening(alloc)?;
+    let pairs = helm_client.helm.opening(alloc)?;
     if pairs.len() > 0 {
-        count_call(steersman, gate);
+        count_call(helm_client, gate);
         call_alone(rt, alloc, lock, first, number, 0, Call::Post(pairs))?;
     }
     Ok(())

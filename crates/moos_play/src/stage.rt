@@ -4,10 +4,10 @@ ghost use Rattle.moos_play.specs.Plays.{left_in, next_stamp};
 ghost use Rattle.moos_play.specs.Runs.{HasAllSeats, HasPlayedOn, IsAtPlay, MayGoOn, MayPlay, shown_by};
 ghost use Rattle.moos_play.specs.Steered.{IsBehind, IsDue, iterations_in, tick_due};
 
+use crate::helm_client::{HelmClient, lead};
 use crate::race::race;
 use crate::run::Ran;
 use crate::stamps::{due_end, tick_due};
-use crate::steersman::{Steersman, lead};
 use moos_client::Lock;
 use moos_io::Gate;
 use moos_post::{List, NoMemory};
@@ -23,7 +23,7 @@ pub(crate) struct Stage<'a> {
     pub(crate) script: &'a Script,
     pub(crate) lock: Lock,
     pub(crate) first: Player,
-    pub(crate) steersman: Option<Steersman>,
+    pub(crate) helm_client: Option<HelmClient>,
     pub(crate) calls: Vec<u64>,
     pub(crate) from: usize,
     pub(crate) order: Order,
@@ -31,7 +31,7 @@ pub(crate) struct Stage<'a> {
 
 impl<'a> Stage<'a> {
     /// Plays the next step: in order Stamp the lines of the next stamp or the helm's next tick, and in order Race
-    /// everything. It answers false where nothing was left. Also where memory is missing the first seat has all others.
+    /// everything. It answers false if nothing was left. Also if memory is missing the first seat has all others.
     pub(crate) fn go_on<R: Threads + Wait + Sync, G: Gate>(
         &mut self,
         rt: &R,
@@ -44,7 +44,7 @@ impl<'a> Stage<'a> {
         ensures more { result ≡ Ok true → left_in (shown_by self.new) < left_in (shown_by self.old) }
         ensures over { result ≡ Ok false → (left_in (shown_by self.old) ≡ 0) × (self.new ≡ self.old) }
     {
-        let tick = tick_due(&self.steersman, self.script.stop);
+        let tick = tick_due(&self.helm_client, self.script.stop);
         let lines = self.script.lines.all();
         let to = due_end(lines, self.from, tick);
         if self.from == to && tick.is_none() {
@@ -57,7 +57,7 @@ impl<'a> Stage<'a> {
         Ok(true)
     }
 
-    // Plays the lines before this place, or the next tick where that is the place that the lines have come to.
+    // Plays the lines before this place, or the next tick if that is the place that the lines have come to.
     fn play_next<R: Threads + Wait + Sync, G: Gate>(
         &mut self,
         rt: &R,
@@ -67,8 +67,8 @@ impl<'a> Stage<'a> {
         gate: &G,
     ) -> Result<(), NoMemory>
         requires may { MayGoOn self.old workers }
-        requires due { IsDue self.old.script.now.lines (tick_due self.old.script.now.stop self.old.steersman) self.old.from to }
-        requires some { (self.old.from ≡ to) → (tick_due self.old.script.now.stop self.old.steersman ≢ None) }
+        requires due { IsDue self.old.script.now.lines (tick_due self.old.script.now.stop self.old.helm_client) self.old.from to }
+        requires some { (self.old.from ≡ to) → (tick_due self.old.script.now.stop self.old.helm_client ≢ None) }
         ensures stepped { HasPlayedOn (next_stamp (shown_by self.old)) self.old self.new result }
         ensures more { OnOk result (left_in (shown_by self.new) < left_in (shown_by self.old)) }
     {
@@ -93,7 +93,7 @@ impl<'a> Stage<'a> {
         ensures stepped { HasPlayedOn (next_stamp (shown_by self.old)) self.old self.new result }
         ensures more { OnOk result (left_in (shown_by self.new) < left_in (shown_by self.old)) }
         ensures on { OnOk result (self.new.from ≡ to) }
-        ensures helm { self.new.steersman ≡ self.old.steersman }
+        ensures helm { self.new.helm_client ≡ self.old.helm_client }
     {
         let lines = &self.script.lines.all()[self.from..to];
         let calls = self.calls.as_mut_slice();
@@ -102,7 +102,7 @@ impl<'a> Stage<'a> {
         Ok(())
     }
 
-    // Has the helm make its next tick, where one is left and no line is left of its stamp or before.
+    // Has the helm make its next tick, if one is left and no line is left of its stamp or before.
     fn play_tick<R: Threads + Wait + Sync, G: Gate>(
         &mut self,
         rt: &R,
@@ -111,22 +111,29 @@ impl<'a> Stage<'a> {
         gate: &G,
     ) -> Result<(), NoMemory>
         requires may { MayGoOn self.old workers }
-        requires some { tick_due self.old.script.now.stop self.old.steersman ≢ None }
-        requires behind { IsBehind (tick_due self.old.script.now.stop self.old.steersman) (drop self.old.from self.old.script.now.lines) }
+        requires some { tick_due self.old.script.now.stop self.old.helm_client ≢ None }
+        requires behind { IsBehind (tick_due self.old.script.now.stop self.old.helm_client) (drop self.old.from self.old.script.now.lines) }
         ensures stepped { HasPlayedOn (next_stamp (shown_by self.old)) self.old self.new result }
         ensures more { OnOk result (left_in (shown_by self.new) < left_in (shown_by self.old)) }
     {
-        let Some(steersman) = &mut self.steersman else {
+        let Some(helm_client) = &mut self.helm_client else {
             unreachable!()
         };
-        let ticks = steersman.ticks + 1;
+        let ticks = helm_client.ticks + 1;
         let first = &mut self.first.seat;
         lead(
-            rt, alloc, &self.lock, first, steersman, ticks, workers, gate,
+            rt,
+            alloc,
+            &self.lock,
+            first,
+            helm_client,
+            ticks,
+            workers,
+            gate,
         )
     }
 
-    // Has all clients play the lines that are left and the helm, where there is one, make its ticks, all beside each other.
+    // Has all clients play the lines that are left and the helm, if there is one, make its ticks, all beside each other.
     fn play_all<R: Threads + Wait + Sync, G: Gate>(
         &mut self,
         rt: &R,
@@ -136,11 +143,11 @@ impl<'a> Stage<'a> {
     ) -> Result<(), NoMemory>
         requires may { MayGoOn self.old workers }
         requires race { self.old.order ≡ Order.Race }
-        requires left { (self.old.steersman ≡ None) → self.old.from < length self.old.script.now.lines }
+        requires left { (self.old.helm_client ≡ None) → self.old.from < length self.old.script.now.lines }
         ensures stepped { HasPlayedOn (next_stamp (shown_by self.old)) self.old self.new result }
         ensures over { OnOk result (left_in (shown_by self.new) ≡ 0) }
     {
-        if self.steersman.is_none() {
+        if self.helm_client.is_none() {
             let to = self.script.lines.len();
             self.play_lines(rt, alloc, to, gate)
         } else {
@@ -158,20 +165,29 @@ impl<'a> Stage<'a> {
     ) -> Result<(), NoMemory>
         requires may { MayGoOn self.old workers }
         requires race { self.old.order ≡ Order.Race }
-        requires some { self.old.steersman ≢ None }
+        requires some { self.old.helm_client ≢ None }
         ensures stepped { HasPlayedOn (next_stamp (shown_by self.old)) self.old self.new result }
         ensures over { OnOk result (left_in (shown_by self.new) ≡ 0) }
     {
-        let Some(steersman) = &mut self.steersman else {
+        let Some(helm_client) = &mut self.helm_client else {
             unreachable!()
         };
-        let ticks = self.script.stop / steersman.period + 1;
+        let ticks = self.script.stop / helm_client.period + 1;
         let to = self.script.lines.len();
         let lines = &self.script.lines.all()[self.from..to];
         let calls = self.calls.as_mut_slice();
         let first = &mut self.first;
         race(
-            rt, alloc, &self.lock, first, steersman, calls, lines, ticks, workers, gate,
+            rt,
+            alloc,
+            &self.lock,
+            first,
+            helm_client,
+            calls,
+            lines,
+            ticks,
+            workers,
+            gate,
         )?;
         self.from = to;
         Ok(())
@@ -182,20 +198,20 @@ impl<'a> Stage<'a> {
         requires { HasAllSeats self }
         ensures names { result.db.names ≡ self.entry.lock.base }
         ensures history { result.db.history ≡ self.entry.first.seat.seen }
-        ensures iterations { result.iterations ≡ iterations_in self.entry.steersman }
+        ensures iterations { result.iterations ≡ iterations_in self.entry.helm_client }
     {
         let Stage {
             script: _,
             lock,
             first,
-            steersman,
+            helm_client,
             calls: _,
             from: _,
             order: _,
         } = self;
         let (db, _) = lock.close(first.seat);
-        let iterations = match steersman {
-            Some(steersman) => steersman.iterations,
+        let iterations = match helm_client {
+            Some(helm_client) => helm_client.iterations,
             None => List::new(alloc),
         };
         Ran { db, iterations }

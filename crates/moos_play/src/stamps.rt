@@ -3,24 +3,24 @@ ghost use Rattle.std.specs.Prelude.{◌≡◌, ◌<◌, ◌≤◌, length, slice
 ghost use Rattle.moos_step.specs.Steps.{EndsStep};
 ghost use Rattle.moos_play.specs.Steered.{comes_before, IsDue, tick_due};
 
-use crate::steersman::Steersman;
+use crate::helm_client::HelmClient;
 use moos_post::Entry;
 
-/// The stamp of the helm's next tick, where one is left up to this stamp.
-pub(crate) fn tick_due(steersman: &Option<Steersman>, stop: u64) -> Option<u64>
-    requires { IfSome steersman.now (λ helm. 1 ≤ helm.period) }
-    ensures { result ≡ tick_due stop steersman.now }
+/// The stamp of the helm's next tick, if one is left up to this stamp.
+pub(crate) fn tick_due(helm_client: &Option<HelmClient>, stop: u64) -> Option<u64>
+    requires { IfSome helm_client.now (λ helm. 1 ≤ helm.period) }
+    ensures { result ≡ tick_due stop helm_client.now }
 {
-    match steersman {
+    match helm_client {
         None => None,
-        Some(steersman) if steersman.ticks <= stop / steersman.period => {
-            Some(steersman.ticks * steersman.period)
+        Some(helm_client) if helm_client.ticks <= stop / helm_client.period => {
+            Some(helm_client.ticks * helm_client.period)
         }
         Some(_) => None,
     }
 }
 
-/// Where the lines end that are played next, of those from one place on: those of the first one's stamp, or none where the
+/// Where the lines end that are played next, of those from one place on: those of the first one's stamp, or none if the
 /// tick has an earlier stamp.
 pub(crate) fn due_end(lines: &[Entry], from: usize, tick: Option<u64>) -> usize
     requires { from ≤ length lines.now }

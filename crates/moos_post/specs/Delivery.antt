@@ -43,7 +43,7 @@ empty_inbox = record { fetched = 0; entries = 0; posts = []; lives = []; mailed 
 abbrev pub newer_stamp : List ℕ → Option ℕ → Post → Option ℕ
 newer_stamp var last post = if bytes_eq post.var var then Some post.stamp else last
 
--- the stamp of the last of these posts that is of the variable, where one is
+-- the stamp of the last of these posts that is of the variable, if one is
 abbrev pub last_stamp : List ℕ → List Post → Option ℕ
 last_stamp var posts = fold (newer_stamp var) None posts
 
@@ -52,7 +52,7 @@ abbrev pub is_past : Option ℕ → ℕ → ℕ → Bool
 is_past None stamp interval = true
 is_past (Some last) stamp interval = nat_le (last + interval) stamp
 
--- A post is due at a live registration that selects it, where no post of its variable came through before, or where
+-- A post is due at a live registration that selects it, if no post of its variable came through before, or if
 -- the last one that did is at least the interval older.
 abbrev pub is_due : List (List ℕ) → Post → Live → Bool
 is_due names post live = selects names live.reg post && is_past (last_stamp post.var live.came) post.stamp live.reg.interval
@@ -65,7 +65,7 @@ with_came post live = record live { came = live.came ++ post ∷ [] }
 abbrev pub mailing : ℕ → ℕ → Mailing
 mailing number entry = record { number = number; entry = entry }
 
--- A post is mailed once where it is due at some live registration, and comes through each at which it is due.
+-- A post is mailed once if it is due at some live registration, and comes through each at which it is due.
 abbrev pub with_post : List (List ℕ) → Inbox → Post → Inbox
 with_post names inbox post = record inbox {
   posts = inbox.posts ++ post ∷ [];
@@ -93,7 +93,7 @@ is_latest post later = not (list_any (λ other. bytes_eq other.var post.var) lat
 abbrev pub was_mailed : ℕ → List Mailing → Bool
 was_mailed number mailed = list_any (λ one. one.number == number) mailed
 
--- a variable's latest post catches up where a registration made at this entry selects it and it was never mailed
+-- a variable's latest post catches up if a registration made at this entry selects it and it was never mailed
 abbrev pub catches_up : List (List ℕ) → Inbox → ℕ → Post → List Post → Bool
 catches_up names inbox number post later =
     is_latest post later && list_any (is_new_for names inbox.entries post) inbox.lives && not (was_mailed number inbox.mailed)

@@ -1,4 +1,4 @@
--- Which numbers and which bytes may stand in a value, a name, a text and a pattern.
+-- Which numbers and which bytes may be in a value, a name, a text and a pattern.
 use Rattle.std.specs.Prelude.{ℕ, ℤ, pos, neg_ℤ, ◌≤ℤ◌, ◌^◌, Bool, false, ◌&&◌, ◌||◌, ◌==◌, not, nat_le, List, [], ◌∷◌, length, Option, position, is_none}
 use Rattle.std.specs.List.{list_all}
 
@@ -6,7 +6,7 @@ use Rattle.std.specs.List.{list_all}
 abbrev pub IsMilli : ℤ → Type 0
 IsMilli n = (neg_ℤ (pos (10 ^ 12)) ≤ℤ n) × (n ≤ℤ pos (10 ^ 12))
 
--- the byte stands from low to high
+-- the byte is from low to high
 abbrev pub is_between : ℕ → ℕ → ℕ → Bool
 is_between low high byte = nat_le low byte && nat_le byte high
 
@@ -22,7 +22,7 @@ is_alphabetic byte = is_between 65 90 byte || is_between 97 122 byte
 abbrev pub begins_name : ℕ → Bool
 begins_name byte = is_alphabetic byte || byte == 95
 
--- the byte may stand in a name: a letter, a digit, `_`, `-` or `.`
+-- the byte may be in a name: a letter, a digit, `_`, `-` or `.`
 abbrev pub is_name_byte : ℕ → Bool
 is_name_byte byte = is_alphabetic byte || is_digit byte || byte == 95 || byte == 45 || byte == 46
 
@@ -31,7 +31,7 @@ abbrev pub is_name : List ℕ → Bool
 is_name [] = false
 is_name (first ∷ rest) = begins_name first && list_all is_name_byte (first ∷ rest) && nat_le (length (first ∷ rest)) 64
 
--- the byte may stand in a pattern: one of a name, `*` or `?`
+-- the byte may be in a pattern: one of a name, `*` or `?`
 abbrev pub is_pattern_byte : ℕ → Bool
 is_pattern_byte byte = is_name_byte byte || byte == 42 || byte == 63
 
@@ -39,11 +39,11 @@ is_pattern_byte byte = is_name_byte byte || byte == 42 || byte == 63
 abbrev pub is_pattern : List ℕ → Bool
 is_pattern bytes = nat_le 1 (length bytes) && list_all is_pattern_byte bytes && nat_le (length bytes) 64
 
--- the byte can't stand in a text: a control byte other than the tab
+-- the byte can't be in a text: a control byte other than the tab
 abbrev pub is_control : ℕ → Bool
 is_control byte = (nat_le byte 31 && not (byte == 9)) || byte == 127
 
--- where the first byte stands that a text can't hold
+-- where the first byte is that a text can't hold
 abbrev pub control_place : List ℕ → Option ℕ
 control_place bytes = position is_control bytes
 

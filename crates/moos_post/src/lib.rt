@@ -1,6 +1,6 @@
 //! What a community is made of: numbers, names, texts, patterns, values, posts, registrations and the entries of the
 //! database's history, each seen by contracts as its bytes or its number, and each list as a list. The delivery rule
-//! itself stands in specs/: which posts are mailed to which client under any history.
+//! itself is in specs/: which posts are mailed to which client under any history.
 //!
 //! Read `copied` and `list` first, one list for all, then `milli`, `name`, `txt` and `pattern`, then `value` and
 //! `registration`, and `entry` last. Of specs/ read `Words`, `Patterns`, `History`, `Delivery`.
@@ -20,7 +20,7 @@ pub use copied::Copied;
 pub use entry::{Call, Entry};
 pub use list::List;
 pub use milli::Milli;
-pub use name::{Name, NameFault};
+pub use name::{Name, NameFault, is_name};
 pub use pattern::{Pattern, PatternFault};
 pub use registration::Reg;
 use std::alloc::AllocError;

@@ -37,7 +37,7 @@ impl<T> List<T> {
         List { items }
     }
 
-    /// Adds the item at the end. Where no memory is left it is handed back, and the list stays as it was.
+    /// Adds the item at the end. If no memory is left it is handed back, and the list stays as it was.
     pub fn push(&mut self, item: T) -> Result<(), T>
         ensures ok { OnOk result (self.new ≡ self.old ++ item ∷ []) }
         ensures same { OnErr result (self.new ≡ self.old) }
@@ -80,7 +80,7 @@ impl<T> List<T> {
 }
 
 impl<T: Drop> List<T> {
-    /// Adds the item at the end. Where no memory is left it is dropped, and the list stays as it was.
+    /// Adds the item at the end. If no memory is left it is dropped, and the list stays as it was.
     pub fn add(&mut self, item: T) -> Result<(), NoMemory>
         ensures ok { OnOk result (self.new ≡ self.old ++ item ∷ []) }
         ensures same { OnErr result (self.new ≡ self.old) }

@@ -29,7 +29,7 @@ impl Model for Milli {
 }
 
 impl Milli {
-    /// The number of this many thousandths, and None exactly where that is outside -10^12 to 10^12.
+    /// The number of this many thousandths, and None exactly if that is outside -10^12 to 10^12.
     pub fn new(n: i64) -> Option<Milli>
         ensures within { IsSome result ↔ IsMilli n }
         ensures value { IfSome result (λ milli. milli ≡ n) }

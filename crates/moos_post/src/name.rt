@@ -85,7 +85,7 @@ impl From<AllocError> for NameFault {
 }
 
 impl Name {
-    /// The name of these bytes. It is refused as `BadName` exactly where they are no name.
+    /// The name of these bytes. It is refused as `BadName` exactly if they are no name.
     pub fn new(alloc: Global, bytes: &[u8]) -> Result<Name, NameFault>
         ensures ok { IfOk result (λ name. name ≡ bytes.now) }
         ensures valid { OnOk result (IsTrue (is_name bytes.now)) }
@@ -139,7 +139,8 @@ fn are_name_bytes(bytes: &[u8]) -> bool
     bytes.iter().all(|&byte| is_name_byte(byte))
 }
 
-fn is_name(bytes: &[u8]) -> bool
+/// Whether these bytes are a name: 1 to 64 letters, digits, `_`, `-` and `.`, the first a letter or `_`. It takes no memory.
+pub fn is_name(bytes: &[u8]) -> bool
     ensures { result ≡ is_name bytes.now }
 {
     match bytes {

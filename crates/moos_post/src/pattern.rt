@@ -52,7 +52,7 @@ impl From<AllocError> for PatternFault {
 }
 
 impl Pattern {
-    /// The pattern of these bytes. It is refused as `BadPattern` exactly where they are no pattern.
+    /// The pattern of these bytes. It is refused as `BadPattern` exactly if they are no pattern.
     pub fn read(alloc: Global, bytes: &[u8]) -> Result<Pattern, PatternFault>
         ensures ok { IfOk result (λ pattern. pattern ≡ bytes.now) }
         ensures valid { OnOk result (IsTrue (is_pattern bytes.now)) }

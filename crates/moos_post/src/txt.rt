@@ -33,7 +33,7 @@ pub enum TxtFault {
     /// They are this many, more than 4,096.
     #[error("a text of {0} bytes")]
     TooLong(usize),
-    /// A text can't hold the byte that stands here, counted from 0; no earlier byte is such.
+    /// A text can't hold the byte that is here, counted from 0; no earlier byte is such.
     #[error("a bad byte at {0}")]
     BadByte(usize),
     /// No memory was left for them.
@@ -53,8 +53,8 @@ impl From<AllocError> for TxtFault {
 }
 
 impl Txt {
-    /// The text of these bytes. It is refused as `TooLong` exactly where they are more than 4,096, and else as
-    /// `BadByte` exactly where a control byte other than a tab stands among them, at the first such place.
+    /// The text of these bytes. It is refused as `TooLong` exactly if they are more than 4,096, and else as
+    /// `BadByte` exactly if a control byte other than a tab is among them, at the first such place.
     pub fn new(alloc: Global, bytes: &[u8]) -> Result<Txt, TxtFault>
         ensures ok { IfOk result (λ text. text ≡ bytes.now) }
         ensures valid { OnOk result (IsTrue (is_text bytes.now)) }
@@ -87,7 +87,7 @@ impl Copied for Txt {
     }
 }
 
-/// Where the first byte stands that a text can't hold, counted from 0.
+/// Where the first byte is that a text can't hold, counted from 0.
 pub fn control_place(bytes: &[u8]) -> Option<usize>
     ensures { result ≡ control_place bytes.now }
 {

@@ -22,7 +22,7 @@ pub struct Pair {
     pub value: Value,
 }
 
-/// One post as it stands in the database: when it was made, in milliseconds, the number of the client that made it,
+/// One post as it is in the database: when it was made, in milliseconds, the number of the client that made it,
 /// its variable and its value.
 #[derive(Debug, Drop)]
 pub struct Post {

@@ -5,8 +5,8 @@ ghost use Rattle.moos_post.specs.Patterns.{matches};
 
 use moos_post::Pattern;
 
-// The latest star of a pattern: what of the pattern stands behind it, and the part of the name where that was tried
-// last. The star takes all that stands before this part.
+// The latest star of a pattern: what of the pattern follows it, and the part of the name where that was tried
+// last. The star takes all that is before this part.
 #[derive(Clone, Copy)]
 struct Star<'a> {
     after: &'a [u8],

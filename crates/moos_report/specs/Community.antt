@@ -1,4 +1,4 @@
--- What a report is printed of: names and entries as their types let them be, where each client has a name of its own, and
+-- What a report is printed of: names and entries as their types let them be, if each client has a name of its own, and
 -- a setup and iterations whose names hold no line end.
 use Rattle.std.specs.Prelude.{◌≡◌, ℕ, ◌<◌, Bool, ◌==◌, not, IsTrue, IfSome, List, length}
 use Rattle.std.specs.List.{All, list_all}

@@ -58,7 +58,7 @@ abbrev pub shown_mode : List ℕ → List ℕ
 shown_mode [] = codes "-"
 shown_mode (first ∷ rest) = first ∷ rest
 
--- the line of the mode, where modes are declared
+-- the line of the mode, if modes are declared
 abbrev pub mode_line : Setup → List ℕ → List ℕ
 mode_line setup mode = if setup.modes then concat (codes "%% mode " ∷ shown_mode mode ∷ codes "\n" ∷ []) else []
 
@@ -112,24 +112,24 @@ iteration_text setup number iteration =
     ++ (flat_map update_text iteration.updates
     ++ (flat_map behavior_text iteration.states ++ (flat_map error_text iteration.faults ++ decided_text iteration.decision))))
 
--- the iteration of this number, where there is one
+-- the iteration of this number, if there is one
 abbrev pub listed_text : Setup → ℕ → Option Iteration → List ℕ
 listed_text setup number None = []
 listed_text setup number (Some iteration) = iteration_text setup number iteration
 
--- the iteration of this number, where `first` is the number of the first one in the list
+-- the iteration of this number, if `first` is the number of the first one in the list
 abbrev pub iteration_from : ℕ → List Iteration → ℕ → Option Iteration
 iteration_from zero iterations number = slice_get iterations number
 iteration_from (suc first) iterations zero = None
 iteration_from (suc first) iterations (suc number) = iteration_from first iterations number
 
--- The iteration that the helm is in after so many fetches, where the list begins with that of number `first`: with its first
+-- The iteration that the helm is in after so many fetches, if the list begins with that of number `first`: with its first
 -- fetch iteration 0 begins, and what it posts before is part of none.
 abbrev pub current_text : Setup → ℕ → List Iteration → ℕ → List ℕ
 current_text setup first iterations zero = []
 current_text setup first iterations (suc number) = listed_text setup number (iteration_from first iterations number)
 
--- What follows an entry, where `past` stands before it: behind what the helm posts the iteration that it is in.
+-- What follows an entry, if `past` is before it: behind what the helm posts the iteration that it is in.
 abbrev pub outcome_text : Setup → ℕ → List Iteration → List (List ℕ) → History → Entry → List ℕ
 outcome_text setup first iterations names past entry =
     if is_helm_post names entry then current_text setup first iterations (helm_fetches names past) else []

@@ -62,13 +62,13 @@ call_text names past entry (Posts batch) =
     ++ flat_map (post_text names) (posts_of_entry entry)
 call_text names past entry Fetch = codes " fetch\n" ++ letters_text names (posts_of past) (mail_after names entry.client past)
 
--- an entry and what belongs to it, where `past` stands before it
+-- an entry and what belongs to it, if `past` is before it
 abbrev pub entry_text : List (List ℕ) → History → Entry → List ℕ
 entry_text names past entry =
     concat (codes "%% entry " ∷ decimal (length past) ∷ codes " " ∷ unsigned_text entry.stamp ∷ codes " " ∷ name_of names entry.client ∷ [])
     ++ call_text names past entry entry.call
 
--- these entries, where `past` stands before them, each with what follows it; the iterations are those from number `first` on
+-- these entries, if `past` is before them, each with what follows it; the iterations are those from number `first` on
 abbrev pub entries_text : Setup → ℕ → List Iteration → List (List ℕ) → History → History → List ℕ
 entries_text setup first iterations names past [] = []
 entries_text setup first iterations names past (entry ∷ later) =
@@ -109,7 +109,7 @@ ReportsTell =
     → report_text setup' others other iterations' ≡ report_text setup names history iterations → (others ≡ names) × (other ≡ history)
 
 -- A report tells where it ends: if two texts that begin with a report each are the same, the reports tell the same clients and
--- the same history, and what stands behind them is the same, whatever it is.
+-- the same history, and what follows them is the same, whatever it is.
 abbrev pub ReportsTellTheirEnd : Type 0
 ReportsTellTheirEnd =
     (setup setup' : Setup) (names others : List (List ℕ)) (history other : History) (iterations iterations' : List Iteration) (rest rest' : List ℕ)

@@ -35,8 +35,8 @@ pub(super) fn put_outcome<K: Sink>(
     put_current(setup, first, iterations, fetches, buffer, out)
 }
 
-// How often the helm has fetched before entry `from`, where so many iterations are given. Only where a part begins within a tick,
-// or with the opening, is what stands before it walked.
+// How often the helm has fetched before entry `from`, if so many iterations are given. Only if a part begins within a tick,
+// or with the opening, is what is before it walked.
 pub(super) fn fetches_before(db: &Db, from: u64, first: u64, many: usize) -> u64
     requires { BeginsWith db.now.names (take from db.now.history) first many (drop from db.now.history) }
     ensures few { result ≤ from }
@@ -198,7 +198,7 @@ fn drive_text(parked: bool) -> &'static [u8]
     if parked { b"PARK" } else { b"DRIVE" }
 }
 
-// The line of the mode, where modes are declared.
+// The line of the mode, if modes are declared.
 fn put_mode<K: Sink>(
     setup: &Setup,
     mode: &[u8],

@@ -13,7 +13,7 @@ use std::marker::Model;
 // How long a line may be that is kept.
 const ROOM: usize = 47;
 
-// A post's line, or nothing where it is too long to be kept. Contracts see its bytes.
+// A post's line, or nothing if it is too long to be kept. Contracts see its bytes.
 #[derive(Drop)]
 struct PostLine {
     bytes: [u8; ROOM],
@@ -41,7 +41,7 @@ impl PostLine {
         }
     }
 
-    // The line that is these pieces, where there is room for them.
+    // The line that is these pieces, if there is room for them.
     #[inline(always)]
     fn joined(pieces: &[&[u8]]) -> PostLine
         ensures { IsLineOrNone result (concat (map (λ piece. piece.now) pieces.now)) }
@@ -113,7 +113,7 @@ fn put_at(bytes: &mut [u8], place: usize, piece: &[u8])
     bytes[place..place + piece.len()].copy_from_slice(piece);
 }
 
-/// The lines of the first posts of a database, as they were printed, 48 bytes for each. Memory is taken for them where there is some,
+/// The lines of the first posts of a database, as they were printed, 48 bytes for each. Memory is taken for them if there is some,
 /// and what isn't kept is formatted anew. Contracts see the lines; one that isn't kept is empty.
 #[derive(Drop)]
 pub struct PostLines {
@@ -145,7 +145,7 @@ impl PostLines {
         }
     }
 
-    // The line of the post with this number, or nothing where it isn't kept.
+    // The line of the post with this number, or nothing if it isn't kept.
     pub(crate) fn line(&self, number: u64) -> &[u8]
         ensures { result.now ≡ unwrap_or (slice_get self.now number) [] }
     {
@@ -169,7 +169,7 @@ impl PostLines {
         }
     }
 
-    // Keeps the lines of a batch by the client with this name, whose first post has the number `first`. Where none is ever kept,
+    // Keeps the lines of a batch by the client with this name, whose first post has the number `first`. If none is ever kept,
     // none is made.
     pub(crate) fn keep_batch(&mut self, first: u64, stamp: u64, source: &[u8], pairs: &[Pair])
         requires { first + length pairs.now < 2 ^ 64 }

@@ -9,7 +9,7 @@ pub fn report_law()
 {}
 
 /// What holds of reports with a text behind them: if two such texts are the same, the reports tell the same clients and the same
-/// history, and what stands behind them is the same, whatever it is. So two reports in a row tell two histories. It does
+/// history, and what follows them is the same, whatever it is. So two reports in a row tell two histories. It does
 /// nothing.
 pub fn reports_law()
     ensures end { ReportsTellTheirEnd }

@@ -1,7 +1,7 @@
 //! The report of a database's history: what is printed of its clients, of each entry, of what each fetch gave, and of each
 //! iteration of the helm.
 //!
-//! The contract for the layers above: the report, or a part of one, goes to a sink whole, or a front of it where the sink
+//! The contract for the layers above: the report, or a part of one, goes to a sink whole, or a front of it if the sink
 //! fails, and then the sink's faults rose. The text is gathered in a buffer on the stack, and what is full goes on. No memory
 //! is taken but for the lines of posts that a caller lets be kept, and what there is no memory for isn't kept.
 //!
@@ -123,7 +123,7 @@ fn posts_in(entry: &Entry) -> u64
     }
 }
 
-// Entry `k` and what belongs to it, where `first` posts stand before it.
+// Entry `k` and what belongs to it, if `first` posts are before it.
 fn put_entry<K: Sink>(
     db: &Db,
     k: u64,
@@ -154,7 +154,7 @@ fn name_of(db: &Db, client: u32) -> &[u8]
     }
 }
 
-// What stands before the call on the line of an entry.
+// What is before the call on the line of an entry.
 fn put_asking<K: Sink>(
     k: u64,
     stamp: u64,

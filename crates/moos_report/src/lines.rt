@@ -185,7 +185,7 @@ fn put_escaped<K: Sink>(text: &[u8], buffer: &mut Buffer, out: &mut K) -> Result
     Ok(())
 }
 
-// What stands before the first `"` or `\`, and the rest.
+// What is before the first `"` or `\`, and the rest.
 fn split_plain(text: &[u8]) -> (&[u8], &[u8])
     ensures parts { result.0.now ++ result.1.now ≡ text.now }
     ensures plain { flat_map escaped result.0.now ≡ result.0.now }
@@ -194,7 +194,7 @@ fn split_plain(text: &[u8]) -> (&[u8], &[u8])
     text.split_at(plain_run(text))
 }
 
-// How many bytes stand before the first `"` or `\`.
+// How many bytes are before the first `"` or `\`.
 pub(super) fn plain_run(text: &[u8]) -> usize
     ensures within { result ≤ length text.now }
     ensures plain { flat_map escaped (take result text.now) ≡ take result text.now }

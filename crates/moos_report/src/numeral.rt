@@ -11,7 +11,7 @@ const MOST: usize = 20;
 #[derive(Drop)]
 pub(crate) struct Numeral {
     number: u64,
-    // They are filled from their end: the number's digits stand from `start` on.
+    // They are filled from their end: the number's digits are from `start` on.
     digits: [u8; MOST],
     start: usize,
 }
@@ -45,7 +45,7 @@ impl Numeral {
         &self.digits[self.start..]
     }
 
-    // Goes on to this number, in place where only the last digit changes, and that by one.
+    // Goes on to this number, in place if only the last digit changes, and that by one.
     #[inline]
     pub(crate) fn go_to(&mut self, number: u64)
         ensures { self.new ≡ number }
@@ -67,7 +67,7 @@ fn is_one_up(before: u64, last: u8, number: u64) -> bool
     last < b'9' && before < number && number - before == 1
 }
 
-// Makes the digits from this place on, which are those of the number, those of the next one, where the last isn't a 9.
+// Makes the digits from this place on, which are those of the number, those of the next one, if the last isn't a 9.
 #[inline(always)]
 fn count_up(digits: &mut [u8; MOST], start: usize, number: u64)
     requires digits { drop start digits.old ≡ decimal number }

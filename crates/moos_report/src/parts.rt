@@ -16,7 +16,7 @@ use moos_db::Db;
 use moos_io::{Buffer, Failed, Sink};
 use std::alloc::Global;
 
-/// Writes the report of the database's history, and behind what the helm posts its iterations, each by its number. Where the
+/// Writes the report of the database's history, and behind what the helm posts its iterations, each by its number. If the
 /// sink fails, it took a front of the report, not the whole. It takes no memory.
 pub fn report<K: Sink>(
     setup: &Setup,
@@ -32,7 +32,7 @@ pub fn report<K: Sink>(
     report_with(setup, db, iterations, PostLines::none(), out)
 }
 
-/// Writes the same, and keeps the lines of posts on the way where there is memory, so that one that many hear is formatted once.
+/// Writes the same, and keeps the lines of posts on the way if there is memory, so that one that many hear is formatted once.
 pub fn report_keeping<K: Sink>(
     alloc: Global,
     setup: &Setup,
@@ -48,7 +48,7 @@ pub fn report_keeping<K: Sink>(
     report_with(setup, db, iterations, PostLines::new(alloc), out)
 }
 
-// Writes the report, where no line was kept so far.
+// Writes the report, if no line was kept so far.
 fn report_with<K: Sink>(
     setup: &Setup,
     db: &Db,
@@ -69,7 +69,7 @@ fn report_with<K: Sink>(
     Ok(())
 }
 
-/// Writes how a report begins, which no entry changes. Where the sink fails, it took a front of that, not the whole.
+/// Writes how a report begins, which no entry changes. If the sink fails, it took a front of that, not the whole.
 pub fn report_head<K: Sink>(setup: &Setup, db: &Db, out: &mut K) -> Result<(), Failed>
     ensures ok { OnOk result (Took (K.taken out.old) (K.taken out.new) (head_text setup.now db.now.names)) }
     ensures front { OnErr result (TookFront (K.taken out.old) (K.taken out.new) (head_text setup.now db.now.names)) }
@@ -92,8 +92,8 @@ fn put_head<K: Sink>(setup: &Setup, db: &Db, buffer: &mut Buffer, out: &mut K) -
 }
 
 /// Writes the entries from number `from` on, whatever entry that is, and behind what the helm posts its iterations, the first of
-/// which has the number `first`. Where the sink fails, it took a front of that, not the whole. What stands before entry `from`
-/// is walked once where iterations are given and the helm posts in the part before it fetches there.
+/// which has the number `first`. If the sink fails, it took a front of that, not the whole. What is before entry `from`
+/// is walked once if iterations are given and the helm posts in the part before it fetches there.
 pub fn report_part<K: Sink>(
     setup: &Setup,
     db: &Db,
@@ -124,7 +124,7 @@ pub fn report_part<K: Sink>(
     )
 }
 
-/// Writes the same through an empty buffer, which is empty again after Ok, and the lines of posts are kept where there is memory: who
+/// Writes the same through an empty buffer, which is empty again after Ok, and the lines of posts are kept if there is memory: who
 /// writes part after part makes one buffer and one list of lines for all.
 pub fn report_part_through<K: Sink>(
     setup: &Setup,
@@ -153,7 +153,7 @@ pub fn report_part_through<K: Sink>(
     Ok(())
 }
 
-/// Writes how the report of the database's history ends. Where the sink fails, it took a front of that, not the whole.
+/// Writes how the report of the database's history ends. If the sink fails, it took a front of that, not the whole.
 pub fn report_end<K: Sink>(db: &Db, out: &mut K) -> Result<(), Failed>
     ensures ok { OnOk result (Took (K.taken out.old) (K.taken out.new) (end_text db.now.history)) }
     ensures front { OnErr result (TookFront (K.taken out.old) (K.taken out.new) (end_text db.now.history)) }

@@ -14,7 +14,7 @@ use moos_db::Db;
 use moos_io::{Buffer, Failed, Sink};
 use moos_post::{Call, Entry, Pair};
 
-// Keeps the lines of the posts of entry `k`, where `first` posts stand before it.
+// Keeps the lines of the posts of entry `k`, if `first` posts are before it.
 pub(super) fn keep_lines(db: &Db, k: u64, entry: &Entry, first: u64, lines: &mut PostLines)
     requires at { slice_get db.now.history k ≡ Some entry.now }
     requires behind { first ≡ length (posts_of (take k db.now.history)) }
@@ -93,7 +93,7 @@ fn put_pairs<K: Sink>(
     Ok(())
 }
 
-// A post by the client with this name, by its line where that is kept.
+// A post by the client with this name, by its line if that is kept.
 fn put_pair<K: Sink>(
     line: &[u8],
     stamp: u64,
@@ -112,7 +112,7 @@ fn put_pair<K: Sink>(
     put_post(stamp, source, pair, buffer, out)
 }
 
-// The letters of these numbers, where `first` posts stand before the fetch.
+// The letters of these numbers, if `first` posts are before the fetch.
 pub(super) fn put_fetch<K: Sink>(
     db: &Db,
     first: u64,

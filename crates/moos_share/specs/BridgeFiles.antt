@@ -14,7 +14,7 @@ use Rattle.moos_share.specs.declared.rule.Rule.{Rule}
 abbrev pub pattern_word : List ℕ → Result (List ℕ) Cause
 pattern_word word = if is_pattern word then Ok word else Err G2
 
--- the interval in milliseconds, where a word is a number of seconds from 0 to 1,000,000
+-- the interval in milliseconds, if a word is a number of seconds from 0 to 1,000,000
 abbrev pub interval_word : List ℕ → Result ℕ Cause
 interval_word word = ok_or (time_of word) G3
 

@@ -1,4 +1,4 @@
--- When two histories are bridged: what the bridge fetches in the first and posts in the second, and where its entries stand.
+-- When two histories are bridged: what the bridge fetches in the first and posts in the second, and where its entries are.
 use Rattle.std.specs.Prelude.{◌≡◌, ◌≢◌, ℕ, suc, max, ◌*◌, ◌==◌, ◌&&◌, ◌||◌, Bool, true, nat_le, nat_lt, if◌then◌else◌, List, [], ◌∷◌, ◌++◌, length, map, codes, IsTrue}
 use Rattle.std.specs.List.{list_all, list_any}
 use Rattle.moos_client.specs.Calls.{entries_of, entry_of}
@@ -46,7 +46,7 @@ are_rising [] = true
 are_rising (one ∷ []) = true
 are_rising (one ∷ next ∷ later) = nat_lt one next && are_rising (next ∷ later)
 
--- these are the stamps at which the lines of either script stand, each once, in rising order
+-- these are the stamps at which the lines of either script are, each once, in rising order
 pub record AreStamps (first second : List Entry) (stamps : List ℕ) : Type 0 where
   pub rising : IsTrue (are_rising stamps)
   pub each : IsTrue (list_all (λ stamp. has_stamp stamp first || has_stamp stamp second) stamps)
@@ -57,13 +57,13 @@ abbrev pub bridge_moment : ℕ → Entry → ℕ
 bridge_moment bridge entry = if entry.client == bridge then suc (2 * entry.stamp) else 2 * entry.stamp
 
 -- No entry's moment is below that of the one before, nor below the first one. So stamps don't fall, and the bridge's entry of a
--- stamp stands behind the others of that stamp.
+-- stamp follows the others of that stamp.
 abbrev pub keeps_moments : ℕ → ℕ → History → Bool
 keeps_moments bridge last [] = true
 keeps_moments bridge last (entry ∷ later) = nat_le last (bridge_moment bridge entry) && keeps_moments bridge (bridge_moment bridge entry) later
 
--- What order Stamp asks, of the first history what stands behind the opening: the bridge fetches once at each stamp at which a line
--- of either script stands, and its entry of a stamp stands behind the clients' in both histories.
+-- What order Stamp asks, of the first history what follows the opening: the bridge fetches once at each stamp at which a line
+-- of either script is, and its entry of a stamp follows the clients' in both histories.
 pub record KeepsStamps (first second : Script) (one rest two : History) : Type 0 where
   pub stamps : AreStamps first.lines second.lines (map (λ fetch. fetch.stamp) (fetches_on first one))
   pub first_in_order : IsTrue (keeps_moments (bridge_number first) 0 rest)
@@ -96,7 +96,7 @@ KeepsBridge Stamp first second rules one rest two = KeepsStamps first second one
 KeepsBridge Race first second rules one rest two = KeepsRace first second rules one two
 
 -- Two histories are bridged: The first begins with the bridge's opening. The bridge's other entries there are fetches. Its
--- entries in the second are posts, one for each fetch in order, with its stamp and the renaming of its mail. All stand as
+-- entries in the second are posts, one for each fetch in order, with its stamp and the renaming of its mail. All are as
 -- the order asks.
 pub record IsBridged (order : Order) (first second : Script) (rules : List Rule) (one two : History) : Type 0 where
   pub rest : History

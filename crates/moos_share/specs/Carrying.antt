@@ -62,7 +62,7 @@ pub record HasNotPosted (names : List (List ℕ)) (stamp : ℕ) (before after : 
   pub uncalled : IsUncalled before.to after.to
   pub bridge : after.bridge ≡ record { rules = before.bridge.rules; unposted = Some fetched }
 
--- what is so where no memory was left
+-- what is so if no memory was left
 abbrev pub HasNotCarried : List (List ℕ) → ℕ → SeatedBridge → SeatedBridge → Type 0
 HasNotCarried names stamp before after = HasNotFetched before after ⊎ HasNotPosted names stamp before after
 

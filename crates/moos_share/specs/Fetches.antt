@@ -19,7 +19,7 @@ pub record MailedFetch : Type 0 where
   pub stamp : ℕ
   pub mail : List Letter
 
--- the fetches of a client in a part of a history that stands behind another part
+-- the fetches of a client in a part of a history that follows another part
 abbrev pub fetches_in : List (List ℕ) → ℕ → History → History → List MailedFetch
 fetches_in names client past [] = []
 fetches_in names client past (entry ∷ later) =
@@ -51,7 +51,7 @@ abbrev pub renamed_unposted : List Rule → Option Fetched → List Pair
 renamed_unposted rules None = []
 renamed_unposted rules (Some fetched) = renamed fetched.names rules fetched.mail
 
--- what the bridge has fetched, as its first seat has seen it, where the clients have these names
+-- what the bridge has fetched, as its first seat has seen it, if the clients have these names
 abbrev pub fetches_by : List (List ℕ) → SeatedBridge → List MailedFetch
 fetches_by names one = fetches_of names one.from.number one.from.seen
 

@@ -15,6 +15,6 @@ is_long_with rule var = matches rule.reg.var var && nat_lt 64 (length (carried_n
 abbrev pub makes_long : List Entry → Rule → Bool
 makes_long lines rule = list_any (λ post. is_long_with rule post.var) (posts_of lines)
 
--- the line of the first such rule, where there is one
+-- the line of the first such rule, if there is one
 abbrev pub too_long_line : List Rule → List Entry → Option ℕ
 too_long_line rules lines = option_map (λ rule. rule.line) (find (makes_long lines) rules)

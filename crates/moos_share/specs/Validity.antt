@@ -4,7 +4,7 @@ use Rattle.moos_post.specs.Entries.{IsReg}
 use Rattle.moos_post.specs.Words.{is_name}
 use Rattle.moos_share.specs.declared.rule.Rule.{Rule}
 
--- two patterns and an interval as their types let them be, and as prefix, where there is one, a name
+-- two patterns and an interval as their types let them be, and as prefix, if there is one, a name
 pub record IsRule (rule : Rule) : Type 0 where
   pub reg : IsReg rule.reg
   pub prefix : IfSome rule.prefix (λ prefix. IsTrue (is_name prefix))

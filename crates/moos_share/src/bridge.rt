@@ -49,7 +49,7 @@ impl Bridge {
     }
 
     /// Fetches in the first community, unless letters are left of a call before, and posts their renaming in the second, also
-    /// where that is nothing, both at this stamp, in milliseconds. Where no memory was left for the post, the letters are
+    /// if that is nothing, both at this stamp, in milliseconds. If no memory was left for the post, the letters are
     /// left to the next call. It waits for the client's turn at either lock, and never holds two turns.
     pub fn carry<R: Wait>(
         &mut self,

@@ -24,7 +24,7 @@ impl CarriedNames {
         }
     }
 
-    /// The name of a variable with this prefix before it, where that has at most 64 bytes: the one that was made before, if it
+    /// The name of a variable with this prefix before it, if that has at most 64 bytes: the one that was made before, if it
     /// still is at its place.
     pub(crate) fn with_prefix(
         &mut self,
@@ -56,7 +56,7 @@ fn place_of(prefix: &Name, var: &Name) -> usize
     mixed as usize % PLACES
 }
 
-// A number that differs mostly where bytes differ that were mixed in.
+// A number that differs mostly if bytes differ that were mixed in.
 fn mix(start: u32, bytes: &[u8]) -> u32 {
     let mut mixed = start;
     for byte in bytes {
@@ -75,7 +75,7 @@ fn is_joined(bytes: &[u8], front: &[u8], behind: &[u8]) -> bool
     }
 }
 
-// A new name of both, where that has at most 64 bytes.
+// A new name of both, if that has at most 64 bytes.
 fn join(alloc: Global, prefix: &Name, var: &Name) -> Result<Option<Name>, NoMemory>
     ensures { IfOk result (λ name. name ≡ short_name (prefix.now ++ var.now)) }
 {

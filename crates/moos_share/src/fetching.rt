@@ -31,7 +31,7 @@ impl Fetched {
 }
 
 /// The client fetches its mail at this stamp, in milliseconds, and is given the names of all clients too: those that a fetch
-/// before gave, where they still are the clients', and else a copy. It waits for the client's turn.
+/// before gave, if they still are the clients', and else a copy. It waits for the client's turn.
 pub(crate) fn fetch_named<R: Wait>(
     rt: &R,
     alloc: Global,
@@ -76,7 +76,7 @@ fn names_and_mail(
     Ok(Fetched { names, mail })
 }
 
-// The names of the clients: those of before, where these are the same.
+// The names of the clients: those of before, if these are the same.
 fn names_now(alloc: Global, db: &Db, before: Option<Names>) -> Result<Names, NoMemory>
     ensures { IfOk result (λ names. names ≡ db.now.names) }
 {

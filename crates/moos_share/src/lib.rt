@@ -1,4 +1,4 @@
-//! A bridge between two communities: the rules of a bridge file, and the client `pShare`, which stands in both. It fetches in
+//! A bridge between two communities: the rules of a bridge file, and the client `pShare`, which is in both. It fetches in
 //! the first community what its rules select, and posts it in the second under the names that the rules give.
 //!
 //! The contract for the layer above: `read_bridge` gives the rules that the bytes stand for, or the first refusal with its line

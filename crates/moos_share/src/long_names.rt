@@ -14,7 +14,7 @@ const MAX_NAME: usize = 64;
 
 /// The line of the first rule that would make a name too long: its variable pattern matches a variable that the script posts
 /// and whose name has more than 64 bytes with the rule's prefix before it, whatever the rule's source pattern and the rules before.
-/// None exactly where no rule would. It takes no memory.
+/// None exactly if no rule would. It takes no memory.
 pub fn too_long(rules: &Rules, first: &Script) -> Option<u32>
     ensures { result ≡ too_long_line rules.now first.now.lines }
 {

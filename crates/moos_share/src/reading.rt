@@ -111,7 +111,7 @@ fn rule_of(alloc: Global, line: u32, text: &[u8]) -> Result<Rule, LineFault>
     Ok(Rule { reg, prefix, line })
 }
 
-// The words of a line that is `share` and four words; None exactly where it isn't that.
+// The words of a line that is `share` and four words; None exactly if it isn't that.
 fn rule_words(text: &[u8]) -> Option<RuleWords<'_>>
     ensures none { IfNone result ((line : ℕ) → rule_of line (words_of text.now) ≡ Err Cause.G1) }
     ensures words { IfSome result (λ words. words_of text.now ≡ codes "share" ∷ words.var.now ∷ words.source.now ∷ words.interval.now ∷ words.prefix.now ∷ []) }

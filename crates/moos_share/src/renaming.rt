@@ -11,7 +11,7 @@ use moos_post::{Batch, Copied, List, Name, Names, NoMemory, Pair, Post};
 use moos_reg::matches;
 use std::alloc::Global;
 
-/// The renaming of these letters, which were fetched where the clients have these names. Room is made once, for all of them.
+/// The renaming of these letters, which were fetched if the clients have these names. Room is made once, for all of them.
 pub(crate) fn renamed(
     alloc: Global,
     rules: &Rules,
@@ -30,7 +30,7 @@ pub(crate) fn renamed(
     Ok(List::of(pairs))
 }
 
-// The post under the name that the first rule that selects it gives; none without such a rule, or where that name is too long.
+// The post under the name that the first rule that selects it gives; none without such a rule, or if that name is too long.
 fn carried_by(
     alloc: Global,
     rules: &Rules,
@@ -68,7 +68,7 @@ fn rule_selects(rule: &Rule, names: &Names, post: &Post) -> bool
         && matches(&rule.reg.source, name_of(names, post.source))
 }
 
-// The bytes of the client's name, none where nobody has the number.
+// The bytes of the client's name, none if nobody has the number.
 fn name_of(names: &Names, client: u32) -> &[u8]
     ensures { result.now ≡ name_of names.now client }
 {
@@ -78,7 +78,7 @@ fn name_of(names: &Names, client: u32) -> &[u8]
     }
 }
 
-// The name with the rule's prefix before it, where that has at most 64 bytes.
+// The name with the rule's prefix before it, if that has at most 64 bytes.
 fn carried_name(
     alloc: Global,
     carried: &mut CarriedNames,

@@ -11,7 +11,7 @@ use Rattle.moos_client.specs.Hearing.{heard_in}
 use Rattle.moos_lawful.proofs.Parts.{either}
 use Rattle.moos_lawful.specs.Schedules.{Completion}
 use Rattle.moos_play.proofs.Hearing.{iterations_many, iterations_stay}
-use Rattle.moos_play.specs.Lawful.{heard_of, iterations, iterations_of, mailed_in, Steering, ticks_to}
+use Rattle.moos_play.specs.Lawful.{heard_of, iterations, iterations_of, mailed_in, HelmSetup, ticks_to}
 use Rattle.moos_play.specs.Plays.{clients_in, HasSteeredSoFar, HasTicked, helm_in, history_in, IsRunFor, iterations_by, iterations_made, Playing, script_played}
 use Rattle.moos_post.specs.History.{History}
 use Rattle.moos_simulate.proofs.Going.{room_beside}
@@ -38,7 +38,7 @@ iterations_behind plan heard n (suc m) below = by (either (nat_le n m)) (iterati
         let all : suc m ≡ n = grind (arith, nat_tests, e, below) in
         ([], ap (iterations_of plan heard) all ∙ sym (append-nil (iterations_of plan heard n)))
 
-module _ (vehicle : Vehicle) (helm : Steering) (play : Playing) (sailing : IsSailing vehicle helm play) (steered : HasSteeredSoFar play)
+module _ (vehicle : Vehicle) (helm : HelmSetup) (play : Playing) (sailing : IsSailing vehicle helm play) (steered : HasSteeredSoFar play)
     (run : IfSome (helm_in play) (IsRunFor (script_played play) (length (iterations_made play))))
   where
     abbrev script : Script

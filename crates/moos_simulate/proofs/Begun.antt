@@ -17,7 +17,7 @@ use Rattle.moos_lawful.specs.Answering.{Answerer, openings, turns_from}
 use Rattle.moos_lawful.specs.Schedules.{due_in, entries_below, IsLawfulSoFar, rises, Schedule}
 use Rattle.moos_lawful.specs.Widening.{IsWider}
 use Rattle.moos_play.proofs.Turns.{start_is}
-use Rattle.moos_play.specs.Lawful.{heard_of, mailed_in, opening_of, Steering, ticks_to}
+use Rattle.moos_play.specs.Lawful.{heard_of, mailed_in, opening_of, HelmSetup, ticks_to}
 use Rattle.moos_play.specs.Schedules.{answering}
 use Rattle.moos_post.specs.declared.entry.Call.TheVariants.{Post as Posts, Register}
 use Rattle.moos_post.specs.declared.entry.Entry.{Entry}
@@ -38,14 +38,14 @@ all_from key [] = refl
 all_from key (x ∷ xs) = and_from (nat_le 0 (key x)) (list_all (λ entry. nat_le 0 (key entry)) xs) (grind (arith, nat_tests)) (all_from key xs)
 
 -- nothing is heard in the helm's opening
-pub opening_deaf : (names : List (List ℕ)) (client : ℕ) (helm : Steering) → heard_of names client (opening_of helm) ≡ []
+pub opening_deaf : (names : List (List ℕ)) (client : ℕ) (helm : HelmSetup) → heard_of names client (opening_of helm) ≡ []
 opening_deaf names client helm = heard_deaf (mailed_in names) client [] (opening_of helm) (by (nat_lt 0 (length helm.plan.opening)))
   where
     by : (b : Bool) → list_all (λ entry. not (is_fetch entry.call)) (entry_of helm.client 0 (Register (wants_of helm.plan)) ∷ cond b (entry_of helm.client 0 (Posts helm.plan.opening) ∷ []) []) ≡ true
     by true = refl
     by false = refl
 
-module _ (vehicle : Vehicle) (helm : Steering) (script : Script) (names : List (List ℕ)) (room : length script.names + suc (length (vehicle_clients vehicle.gear helm.period)) ≤ length names) (some : 1 ≤ helm.period)
+module _ (vehicle : Vehicle) (helm : HelmSetup) (script : Script) (names : List (List ℕ)) (room : length script.names + suc (length (vehicle_clients vehicle.gear helm.period)) ≤ length names) (some : 1 ≤ helm.period)
   where
     abbrev whole : Schedule Tick
     whole = schedule_simulated script (Some helm) vehicle.gear names

@@ -3,7 +3,7 @@ use Rattle.std.proofs.Common.{◌≡◌, ℕ, suc, ◌+◌, [], ◌++◌, append
 use Rattle.std.specs.Prelude.{Err, is_some, None, Ok, OnErr, OnOk, Option, Result, Some}
 use Rattle.contact_avoid.specs.declared.ranges.Ranges.{Ranges}
 use Rattle.moos_play.proofs.Below.{names_more}
-use Rattle.moos_play.specs.Lawful.{names_with, Steering}
+use Rattle.moos_play.specs.Lawful.{names_with, HelmSetup}
 use Rattle.moos_play.specs.Plays.{clients_in, GoesOnWith, helm_in, history_in, IsBetween, Playing, script_played, StaysSeated}
 use Rattle.moos_simulate.specs.declared.gear.Gear.{Gear}
 use Rattle.moos_simulate.specs.declared.vehicle.Vehicle.{Vehicle}
@@ -47,7 +47,7 @@ pub as_many : (craft : CraftSettings) (ranges : Option Ranges) (period : ℕ) �
 as_many craft None period = refl
 as_many craft (Some ranges) period = refl
 
-pub room_beside : (vehicle : Vehicle) (helm : Steering) (play : Playing) → IsBeside vehicle helm play → length (clients_in play) ≡ length (script_played play).names + suc (length (vehicle_clients vehicle.gear helm.period))
+pub room_beside : (vehicle : Vehicle) (helm : HelmSetup) (play : Playing) → IsBeside vehicle helm play → length (clients_in play) ≡ length (script_played play).names + suc (length (vehicle_clients vehicle.gear helm.period))
 room_beside vehicle helm play beside =
     omega (arith, ap length beside.named, length-append (names_with (script_played play) (Some helm)) (gear_names vehicle.gear), names_more (script_played play) helm, as_many vehicle.gear.craft vehicle.gear.ranges helm.period)
 
@@ -59,7 +59,7 @@ pub record IsSameVehicle (old new : Vehicle) : Type 0 where
   pub mgr : new.mgr_client ≡ old.mgr_client
   pub period : new.period ≡ old.period
 
-pub beside_on : (vehicle other : Vehicle) (helm : Steering) (old new : Playing) → IsBeside vehicle helm old → IsBetween new → GoesOnWith old new → IsSameVehicle vehicle other → IsBeside other helm new
+pub beside_on : (vehicle other : Vehicle) (helm : HelmSetup) (old new : Playing) → IsBeside vehicle helm old → IsBetween new → GoesOnWith old new → IsSameVehicle vehicle other → IsBeside other helm new
 beside_on vehicle other helm old new beside between on same = record {
   between = between;
   order = on.order ∙ beside.order;
@@ -102,7 +102,7 @@ stays_on_twice before middle after one other = record {
 }
 
 -- a history that is lawful so far for a play is so for one that goes on from it with this history
-pub lawful_on : (gear : Gear) (helm : Steering) (old new : Playing) → helm_in old ≡ Some helm → GoesOnWith old new → IsSimulatedSoFar (script_played old) (Some helm) gear (clients_in old) (history_in new) → IsSimulatedSoFar (script_played new) (helm_in new) gear (clients_in new) (history_in new)
+pub lawful_on : (gear : Gear) (helm : HelmSetup) (old new : Playing) → helm_in old ≡ Some helm → GoesOnWith old new → IsSimulatedSoFar (script_played old) (Some helm) gear (clients_in old) (history_in new) → IsSimulatedSoFar (script_played new) (helm_in new) gear (clients_in new) (history_in new)
 lawful_on gear helm old new steered on so =
     subst (λ helm. IsSimulatedSoFar (script_played new) helm gear (clients_in new) (history_in new)) (sym (on.helm ∙ steered))
     (subst (λ names. IsSimulatedSoFar (script_played new) (Some helm) gear names (history_in new)) (sym (on.names))

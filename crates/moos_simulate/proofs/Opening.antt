@@ -4,7 +4,7 @@ use Rattle.std.specs.Prelude.{IfSome, Some}
 use Rattle.moos_client.specs.Calls.{entry_of}
 use Rattle.moos_lawful.specs.Answering.{openings}
 use Rattle.moos_lawful.specs.Schedules.{IsLawfulSoFar}
-use Rattle.moos_play.specs.Lawful.{heard_of, opening_of, Steering}
+use Rattle.moos_play.specs.Lawful.{heard_of, opening_of, HelmSetup}
 use Rattle.moos_play.specs.Plays.{clients_in, HasSteeredSoFar, HasTicked, helm_in, history_in, IsRunFor, iterations_made, left_in, next_stamp, Playing, schedule_in, script_played}
 use Rattle.moos_play.specs.Schedules.{schedule_with}
 use Rattle.moos_post.specs.declared.entry.Call.TheVariants.{Post as Posts, Register}
@@ -61,7 +61,7 @@ module _ (vehicle : Vehicle) (period pid_client : ℕ) (old : Playing) (may : Ma
 
     module _ (new : Playing) (stays : StaysBetween old new) (steered : HasSteeredSoFar old) (so_far : IsLawfulSoFar (schedule_in old) (history_in old))
       where
-        abbrev pub helm : Steering
+        abbrev pub helm : HelmSetup
         helm = may.helm
 
         abbrev pub script : Script

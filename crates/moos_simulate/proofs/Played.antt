@@ -17,7 +17,7 @@ use Rattle.moos_lawful.specs.Schedules.{clients_below, entries_from, IsLawfulSoF
 use Rattle.moos_play.proofs.Below.{names_more}
 use Rattle.moos_play.proofs.Hearing.{iterations_many}
 use Rattle.moos_play.specs.declared.round_made.Round.{Round}
-use Rattle.moos_play.specs.Lawful.{heard_of, known_clients, KeepsStamp, mailed_in, Steering, ticks_to}
+use Rattle.moos_play.specs.Lawful.{heard_of, known_clients, KeepsStamp, mailed_in, HelmSetup, ticks_to}
 use Rattle.moos_play.specs.Plays.{AddsAt, clients_in, earliest, GoesOnWith, HasNoTick, HasTick, HasTurn, helm_in, history_in, IsBetween, IsLeft, IsPlayedOut, IsRound, IsRunFor, IsTurn, iterations_by, iterations_made, KeepsLeft, known_clients_in, left_in, next_stamp, order_played, Playing, schedule_in, script_played, stamp_next, StaysSeated, tick_at, ticks_behind}
 use Rattle.moos_play.specs.Schedules.{answering, schedule_with}
 use Rattle.moos_post.specs.declared.entry.Entry.{Entry}
@@ -46,7 +46,7 @@ earliest_low stop k None true is = omega arith
 earliest_low stop k (Some line) true is = earlier_is_low k line (nat_lt k line) refl
 
 -- the next stamp isn't behind the next tick, where one is left
-next_low : (stop ticks : ℕ) (helm : Steering) (line : Option ℕ) → ticks < ticks_to stop helm → earliest stop (tick_at stop (Some helm) ticks) line ≤ ticks * helm.period
+next_low : (stop ticks : ℕ) (helm : HelmSetup) (line : Option ℕ) → ticks < ticks_to stop helm → earliest stop (tick_at stop (Some helm) ticks) line ≤ ticks * helm.period
 next_low stop ticks helm line more = earliest_low stop (ticks * helm.period) line (nat_le ticks (stop / helm.period)) (grind (arith, nat_tests, more))
 
 -- ---- lists
@@ -68,7 +68,7 @@ later_than s next (x ∷ left) less late =
     let test = tests.0 in
     and_from (nat_le (suc s) x.stamp) (list_all (λ entry. nat_le (suc s) entry.stamp) left) (grind (arith, nat_tests, test, less)) (later_than s next left less tests.1)
 
-module _ (vehicle : Vehicle) (helm : Steering) (old new : Playing) (sailing : IsSailing vehicle helm old) (on : GoesOnWith old new)
+module _ (vehicle : Vehicle) (helm : HelmSetup) (old new : Playing) (sailing : IsSailing vehicle helm old) (on : GoesOnWith old new)
   where
     beside : IsBeside vehicle helm old
     beside = sailing.beside
@@ -283,7 +283,7 @@ module _ (vehicle : Vehicle) (helm : Steering) (old new : Playing) (sailing : Is
 
 -- ---- nothing is left
 
-module _ (vehicle : Vehicle) (helm : Steering) (play : Playing) (sailing : IsSailing vehicle helm play) (none : left_in play ≡ 0) (out : IsPlayedOut play)
+module _ (vehicle : Vehicle) (helm : HelmSetup) (play : Playing) (sailing : IsSailing vehicle helm play) (none : left_in play ≡ 0) (out : IsPlayedOut play)
     (left : (so : IsLawfulSoFar (schedule_in play) (history_in play)) (n : ℕ) → n < known_clients_in play → IsLeft play (so.left n)) (now : IsLawfulSoFar (schedule_in play) (history_in play))
   where
     beside_out : IsBeside vehicle helm play

@@ -7,7 +7,7 @@ use Rattle.std.proofs.lemmas.List.Folds.{list_all-append}
 use Rattle.helm_core.specs.Ticks.{Tick}
 use Rattle.moos_lawful.specs.Answering.{schedule_of}
 use Rattle.moos_lawful.specs.Schedules.{clients_below, IsLawfulSoFar, Schedule}
-use Rattle.moos_play.specs.Lawful.{mailed_in, Steering, ticks_to}
+use Rattle.moos_play.specs.Lawful.{mailed_in, HelmSetup, ticks_to}
 use Rattle.moos_play.specs.Schedules.{answering}
 use Rattle.moos_post.specs.declared.entry.Entry.{Entry}
 use Rattle.moos_post.specs.History.{History}
@@ -39,10 +39,10 @@ at_not_later stamp (x ∷ rest) one =
     and_from (nat_le x.stamp stamp) (list_all (λ entry. nat_le entry.stamp stamp) rest) (grind (arith, nat_tests, test)) (at_not_later stamp rest tests.1)
 
 -- the schedule that the play itself knows
-abbrev pub known_alone : Steering → Script → List (List ℕ) → Schedule Tick
+abbrev pub known_alone : HelmSetup → Script → List (List ℕ) → Schedule Tick
 known_alone helm script names = schedule_of Stamp script.lines (length script.names) script.stop helm.period (answering helm ∷ []) (length names) (mailed_in names)
 
-module _ (vehicle : Vehicle) (helm : Steering) (script : Script) (names : List (List ℕ)) (room : length script.names + suc (length (vehicle_clients vehicle.gear helm.period)) ≤ length names) (some : 1 ≤ helm.period)
+module _ (vehicle : Vehicle) (helm : HelmSetup) (script : Script) (names : List (List ℕ)) (room : length script.names + suc (length (vehicle_clients vehicle.gear helm.period)) ≤ length names) (some : 1 ≤ helm.period)
   where
     abbrev whole : Schedule Tick
     whole = sailed vehicle.gear helm script names room some

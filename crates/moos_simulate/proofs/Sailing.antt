@@ -12,7 +12,7 @@ use Rattle.moos_client.specs.Calls.{entry_of}
 use Rattle.moos_db.specs.Database.{letters_after}
 use Rattle.moos_lawful.specs.Answering.{Answerer}
 use Rattle.moos_lawful.specs.Schedules.{IsLawfulSoFar, IsPlayable, Schedule}
-use Rattle.moos_play.specs.Lawful.{mailed_in, Steering, ticks_to}
+use Rattle.moos_play.specs.Lawful.{mailed_in, HelmSetup, ticks_to}
 use Rattle.moos_play.specs.Schedules.{answering}
 use Rattle.moos_post.specs.declared.entry.Call.{Call}
 use Rattle.moos_post.specs.declared.entry.Call.TheVariants.{Post as Posts, Fetch}
@@ -52,7 +52,7 @@ fetched n stamp history = history ++ entry_of n stamp Fetch ∷ []
 abbrev pub posted : ℕ → ℕ → History → List Pair → History
 posted n stamp history said = fetched n stamp history ++ entry_of n stamp (Posts said) ∷ []
 
-module _ (gear : Gear) (helm : Steering) (script : Script) (names : List (List ℕ)) (room : length script.names + suc (length (vehicle_clients gear helm.period)) ≤ length names) (some : 1 ≤ helm.period)
+module _ (gear : Gear) (helm : HelmSetup) (script : Script) (names : List (List ℕ)) (room : length script.names + suc (length (vehicle_clients gear helm.period)) ≤ length names) (some : 1 ≤ helm.period)
   where
     abbrev pub sailed : Schedule Tick
     sailed = schedule_simulated script (Some helm) gear names
@@ -159,7 +159,7 @@ module _ (gear : Gear) (helm : Steering) (script : Script) (names : List (List �
 
 -- ---- what the clients keep
 
-module _ (vehicle : Vehicle) (helm : Steering) (script : Script) (names : List (List ℕ)) (room : length script.names + suc (length (vehicle_clients vehicle.gear helm.period)) ≤ length names) (some : 1 ≤ helm.period) (count left next stamp : ℕ) (history history' : History)
+module _ (vehicle : Vehicle) (helm : HelmSetup) (script : Script) (names : List (List ℕ)) (room : length script.names + suc (length (vehicle_clients vehicle.gear helm.period)) ≤ length names) (some : 1 ≤ helm.period) (count left next stamp : ℕ) (history history' : History)
   where
     abbrev craft : CraftSettings
     craft = vehicle.gear.craft
@@ -205,7 +205,7 @@ module _ (vehicle : Vehicle) (helm : Steering) (script : Script) (names : List (
 
 -- ---- all have answered
 
-pub all_turned : (vehicle : Vehicle) (helm : Steering) (script : Script) (names : List (List ℕ)) (room : length script.names + suc (length (vehicle_clients vehicle.gear helm.period)) ≤ length names) (some : 1 ≤ helm.period)
+pub all_turned : (vehicle : Vehicle) (helm : HelmSetup) (script : Script) (names : List (List ℕ)) (room : length script.names + suc (length (vehicle_clients vehicle.gear helm.period)) ≤ length names) (some : 1 ≤ helm.period)
     (count left next stamp last : ℕ) (history : History) (so : IsAwaited vehicle.gear helm script names count left next stamp last history) → KeepMails vehicle helm script names history so.so_far
     → last ≡ pid_number script + length (vehicle_clients vehicle.gear helm.period) → IsUnderSail vehicle helm script names (suc count) left next history
 all_turned vehicle helm script names room some count left next stamp last history so kept end = record {

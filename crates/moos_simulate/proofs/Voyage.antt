@@ -6,7 +6,7 @@ use Rattle.helm_core.specs.declared.iteration.Iteration.{Iteration}
 use Rattle.moos_db.specs.Database.{letters_after}
 use Rattle.moos_lawful.specs.Schedules.{IsLawfulSoFar}
 use Rattle.moos_play.proofs.Below.{names_more}
-use Rattle.moos_play.specs.Lawful.{known_clients, Steering}
+use Rattle.moos_play.specs.Lawful.{known_clients, HelmSetup}
 use Rattle.moos_play.specs.Plays.{clients_in, history_in, IsFurther, known_clients_in, left_in, next_stamp, Playing, script_played}
 use Rattle.moos_post.specs.declared.value.Pair.{Pair}
 use Rattle.moos_post.specs.History.{History}
@@ -24,7 +24,7 @@ use Rattle.sim_clients.specs.Keeping.{IsMgrAfter, IsPidAfter, IsSimAfter, pairs_
 
 module _ (vehicle : Vehicle) (old : Playing) (stamp n : ℕ) (a : IsAnswering vehicle old stamp n)
   where
-    abbrev pub helm : Steering
+    abbrev pub helm : HelmSetup
     helm = a.helm
 
     abbrev pub script : Script

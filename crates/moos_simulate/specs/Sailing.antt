@@ -1,4 +1,4 @@
--- Where a play stands beside its simulated vehicle between two rounds.
+-- Where a play is beside its simulated vehicle between two rounds.
 use Rattle.std.specs.Prelude.{◌≡◌, ◌⊎◌, ℕ, suc, ◌-◌, ◌^◌, ◌≤◌, ◌<◌, nat_lt, List, [], ◌∷◌, ◌++◌, length, None, Option, Some, IsTrue}
 use Rattle.std.specs.List.{list_all}
 use Rattle.contact_avoid.specs.declared.ranges.Ranges.{Ranges}
@@ -7,7 +7,7 @@ use Rattle.moos_client.specs.Hearing.{heard_in}
 use Rattle.moos_lawful.specs.Answering.{Answerer, turns_from}
 use Rattle.moos_lawful.specs.Schedules.{IsLawfulSoFar, Schedule}
 use Rattle.moos_play.specs.declared.round_made.Round.{Round}
-use Rattle.moos_play.specs.Lawful.{heard_of, iterations, names_with, opening_of, Steering, ticks_to}
+use Rattle.moos_play.specs.Lawful.{heard_of, iterations, names_with, opening_of, HelmSetup, ticks_to}
 use Rattle.moos_play.specs.Plays.{clients_in, helm_in, history_in, IsBetween, iterations_made, left_in, next_stamp, order_played, Playing, script_played}
 use Rattle.moos_post.specs.declared.value.Pair.{Pair}
 use Rattle.moos_post.specs.History.{History}
@@ -51,32 +51,32 @@ sim_number script = suc (suc (length script.names))
 abbrev pub mgr_number : Script → ℕ
 mgr_number script = suc (suc (suc (length script.names)))
 
--- what these mails come to is kept by the contact manager, where there is one
+-- what these mails come to is kept by the contact manager, if there is one
 abbrev pub KeepsContacts : Option Ranges → List (List Pair) → Option BasicContactMgr → Type 0
 KeepsContacts None mails None = Unit {0}
 KeepsContacts (Some ranges) mails (Some mgr) = IsMgrAfter ranges mails mgr
 KeepsContacts ranges mails mgr = ⊥
 
 -- what the clients of the vehicle have heard, one by one
-abbrev pub mails_of : (script : Script) (helm : Steering) (gear : Gear) (names : List (List ℕ)) → ℕ → History → List (List Pair)
+abbrev pub mails_of : (script : Script) (helm : HelmSetup) (gear : Gear) (names : List (List ℕ)) → ℕ → History → List (List Pair)
 mails_of script helm gear names n rest = mails_said (hears (schedule_simulated script (Some helm) gear names) n rest)
 
 -- the clients of the vehicle keep what their mails so far come to
-pub record KeepMails (vehicle : Vehicle) (helm : Steering) (script : Script) (names : List (List ℕ)) (history : History) (so : IsLawfulSoFar (schedule_simulated script (Some helm) vehicle.gear names) history) : Type 0 where
+pub record KeepMails (vehicle : Vehicle) (helm : HelmSetup) (script : Script) (names : List (List ℕ)) (history : History) (so : IsLawfulSoFar (schedule_simulated script (Some helm) vehicle.gear names) history) : Type 0 where
   pub pid : IsPidAfter vehicle.gear.craft (mails_of script helm vehicle.gear names (pid_number script) so.rest) vehicle.pid
   pub sim : IsSimAfter vehicle.gear.craft helm.period (mails_of script helm vehicle.gear names (sim_number script) so.rest) vehicle.sim
   pub mgr : KeepsContacts vehicle.gear.ranges (mails_of script helm vehicle.gear names (mgr_number script) so.rest) vehicle.mgr
 
 -- A history that is that of a simulated vehicle as far as it goes, in which each client of the vehicle has made so many turns and
 -- keeps what these come to. Unless nothing is left, it has no entry of the next stamp yet.
-pub record IsUnderSail (vehicle : Vehicle) (helm : Steering) (script : Script) (names : List (List ℕ)) (count left next : ℕ) (history : History) : Type 0 where
+pub record IsUnderSail (vehicle : Vehicle) (helm : HelmSetup) (script : Script) (names : List (List ℕ)) (count left next : ℕ) (history : History) : Type 0 where
   pub so_far : IsLawfulSoFar (schedule_simulated script (Some helm) vehicle.gear names) history
   pub turned : HaveMadeTurns (schedule_simulated script (Some helm) vehicle.gear names) (vehicle_clients vehicle.gear helm.period) (pid_number script) helm.period (ticks_to script.stop helm) (λ n. count) history so_far
   pub kept : KeepMails vehicle helm script names history so_far
   pub early : (left ≡ 0) ⊎ IsTrue (list_all (λ entry. nat_lt entry.stamp next) so_far.rest)
 
 -- how a play is set up that goes on beside this vehicle: in order Stamp, with a helm, and with the vehicle's clients behind it
-pub record IsBeside (vehicle : Vehicle) (helm : Steering) (play : Playing) : Type 0 where
+pub record IsBeside (vehicle : Vehicle) (helm : HelmSetup) (play : Playing) : Type 0 where
   pub between : IsBetween play
   pub order : order_played play ≡ Stamp
   pub steered : helm_in play ≡ Some helm
@@ -92,7 +92,7 @@ pub record IsBeside (vehicle : Vehicle) (helm : Steering) (play : Playing) : Typ
 -- A play in order Stamp to which the clients of a vehicle with this gear may come, with this period and from this number on: its helm has made
 -- its opening, and nobody else an entry.
 pub record MayLaunch (gear : Gear) (step first : ℕ) (play : Playing) : Type 0 where
-  pub helm : Steering
+  pub helm : HelmSetup
   pub between : IsBetween play
   pub order : order_played play ≡ Stamp
   pub steered : helm_in play ≡ Some helm
@@ -104,13 +104,13 @@ pub record MayLaunch (gear : Gear) (step first : ℕ) (play : Playing) : Type 0 
   pub room : suc (suc first) < 2 ^ 32
 
 -- such a play with as many turns of the vehicle's clients as the helm has made ticks
-pub record IsSailing (vehicle : Vehicle) (helm : Steering) (play : Playing) : Type 0 where
+pub record IsSailing (vehicle : Vehicle) (helm : HelmSetup) (play : Playing) : Type 0 where
   pub beside : IsBeside vehicle helm play
   pub sail : IsUnderSail vehicle helm (script_played play) (clients_in play) (length (iterations_made play)) (left_in play) (next_stamp play) (history_in play)
 
 -- the play goes on so with the helm that it has
 abbrev pub IsSimulating : Vehicle → Playing → Type 0
-IsSimulating vehicle play = (helm : Steering) × IsSailing vehicle helm play
+IsSimulating vehicle play = (helm : HelmSetup) × IsSailing vehicle helm play
 
 -- a play in which nothing is left: its history is that of a simulated vehicle, and the iterations are those of this history
 pub record IsSailedOut (gear : Gear) (play : Playing) : Type 0 where

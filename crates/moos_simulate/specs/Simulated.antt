@@ -1,5 +1,5 @@
 -- Which histories a simulated vehicle leaves: those of a script's lines beside clients that answer each tick, the helm, then pMarinePID,
--- then uSimMarine, and then pBasicContactMgr, where the vehicle has one.
+-- then uSimMarine, and then pBasicContactMgr, if the vehicle has one.
 use Rattle.std.specs.Prelude.{ℕ, Bool, true, false, List, [], ◌∷◌, ◌++◌, codes, is_some, length, map, Option, Some, None}
 use Rattle.contact_avoid.specs.declared.ranges.Ranges.{Ranges}
 use Rattle.moos_post.specs.declared.entry.Call.TheVariants.{Register, Post as Posts}
@@ -8,7 +8,7 @@ use Rattle.moos_post.specs.History.{History}
 use Rattle.helm_core.specs.Ticks.{pairs_mailed, Tick}
 use Rattle.moos_lawful.specs.Answering.{Answerer, schedule_of}
 use Rattle.moos_lawful.specs.Schedules.{IsLawfulFor, IsLawfulSoFar, Schedule}
-use Rattle.moos_play.specs.Lawful.{mailed_in, Steering}
+use Rattle.moos_play.specs.Lawful.{mailed_in, HelmSetup}
 use Rattle.moos_play.specs.Schedules.{answerers, tick_period}
 use Rattle.moos_simulate.specs.declared.gear.Gear.{Gear}
 use Rattle.script_reader.specs.declared.script.Order.TheVariants.{Stamp}
@@ -42,7 +42,7 @@ contact_mgr ranges = record {
   says = λ heard. contacts_by ranges (mails_said heard);
 }
 
--- the contact manager of these ranges, where there are any
+-- the contact manager of these ranges, if there are any
 abbrev pub contact_clients : Option Ranges → List (Answerer Tick)
 contact_clients None = []
 contact_clients (Some ranges) = contact_mgr ranges ∷ []
@@ -51,7 +51,7 @@ contact_clients (Some ranges) = contact_mgr ranges ∷ []
 abbrev pub vehicle_clients : Gear → ℕ → List (Answerer Tick)
 vehicle_clients gear period = marine_pid gear.craft ∷ sim_marine gear.craft period ∷ contact_clients gear.ranges
 
--- the name of the contact manager, where there is one
+-- the name of the contact manager, if there is one
 abbrev pub contact_names : Bool → List (List ℕ)
 contact_names false = []
 contact_names true = codes "pBasicContactMgr" ∷ []
@@ -65,16 +65,16 @@ abbrev pub gear_names : Gear → List (List ℕ)
 gear_names gear = vehicle_names (is_some gear.ranges)
 
 -- the schedule of a script with a helm and a vehicle of this gear, under these names of the clients
-abbrev pub schedule_simulated : Script → Option Steering → Gear → List (List ℕ) → Schedule Tick
+abbrev pub schedule_simulated : Script → Option HelmSetup → Gear → List (List ℕ) → Schedule Tick
 schedule_simulated script helm gear names =
     schedule_of Stamp script.lines (length script.names) script.stop (tick_period helm) (answerers helm ++ vehicle_clients gear (tick_period helm)) (length names) (mailed_in names)
 
--- A history that a simulated vehicle leaves: The openings of the helm and of the vehicle's clients stand first. Behind them each client
+-- A history that a simulated vehicle leaves: The openings of the helm and of the vehicle's clients are first. Behind them each client
 -- of the script has its lines, and those others fetch and post at each tick, over what they have heard by then. At a stamp the
 -- script's clients come first, and then the others in their order. Nobody else has an entry.
-abbrev pub IsSimulated : Script → Option Steering → Gear → List (List ℕ) → History → Type 0
+abbrev pub IsSimulated : Script → Option HelmSetup → Gear → List (List ℕ) → History → Type 0
 IsSimulated script helm gear names history = IsLawfulFor (schedule_simulated script helm gear names) history
 
 -- such a history as far as it goes
-abbrev pub IsSimulatedSoFar : Script → Option Steering → Gear → List (List ℕ) → History → Type 0
+abbrev pub IsSimulatedSoFar : Script → Option HelmSetup → Gear → List (List ℕ) → History → Type 0
 IsSimulatedSoFar script helm gear names history = IsLawfulSoFar (schedule_simulated script helm gear names) history

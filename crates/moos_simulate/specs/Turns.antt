@@ -6,7 +6,7 @@ use Rattle.moos_lawful.specs.Schedules.{IsLawfulSoFar}
 use Rattle.moos_post.specs.declared.entry.Call.TheVariants.{Fetch, Post as Posts}
 use Rattle.moos_post.specs.declared.value.Pair.{Pair}
 use Rattle.moos_post.specs.History.{History}
-use Rattle.moos_play.specs.Lawful.{Steering, ticks_to}
+use Rattle.moos_play.specs.Lawful.{HelmSetup, ticks_to}
 use Rattle.moos_play.specs.Plays.{clients_in, GoesOnWith, history_in, IsBetween, iterations_made, left_in, next_stamp, Playing, script_played, StaysSeated}
 use Rattle.moos_simulate.specs.declared.gear.Gear.{Gear}
 use Rattle.moos_simulate.specs.declared.vehicle.Vehicle.{Vehicle}
@@ -31,13 +31,13 @@ HasSaid client stamp said before after = history_in after ≡ (history_in before
 abbrev pub HasHeardAtMost : ℕ → ℕ → Playing → Playing → Type 0
 HasHeardAtMost client stamp before after = (history_in after ≡ history_in before) ⊎ (history_in after ≡ history_in before ++ entry_of client stamp Fetch ∷ [])
 
--- how many turns the client of a number has made, where the clients below another number have answered one tick more than so many
+-- how many turns the client of a number has made, if the clients below another number have answered one tick more than so many
 abbrev pub turns_made : ℕ → ℕ → ℕ → ℕ
 turns_made count next client = if nat_lt client next then suc count else count
 
 -- A tick that the vehicle's clients below a number have answered, and that the others have yet to: the helm has made one more than these,
--- it has this stamp, nothing that is left for the script's clients and the helm is of this stamp or before, and what stands so far isn't later.
-pub record IsAwaited (gear : Gear) (helm : Steering) (script : Script) (names : List (List ℕ)) (count left next stamp client : ℕ) (history : History) : Type 0 where
+-- it has this stamp, nothing that is left for the script's clients and the helm is of this stamp or before, and what is so far isn't later.
+pub record IsAwaited (gear : Gear) (helm : HelmSetup) (script : Script) (names : List (List ℕ)) (count left next stamp client : ℕ) (history : History) : Type 0 where
   pub so_far : IsLawfulSoFar (schedule_simulated script (Some helm) gear names) history
   pub turned : HaveMadeTurns (schedule_simulated script (Some helm) gear names) (vehicle_clients gear helm.period) (pid_number script) helm.period (ticks_to script.stop helm) (turns_made count client) history so_far
   pub more : count < ticks_to script.stop helm
@@ -48,7 +48,7 @@ pub record IsAwaited (gear : Gear) (helm : Steering) (script : Script) (names : 
 
 -- such a play, with a count of the turns so far
 pub record IsAnswering (vehicle : Vehicle) (play : Playing) (stamp client : ℕ) : Type 0 where
-  pub helm : Steering
+  pub helm : HelmSetup
   pub beside : IsBeside vehicle helm play
   pub count : ℕ
   pub ticks : length (iterations_made play) ≡ suc count

@@ -22,7 +22,7 @@ use std::sync::Wait;
 
 impl Vehicle {
     /// A vehicle of this gear in a play: its clients make their openings behind the helm's, pMarinePID under the number that is given,
-    /// and uSimMarine and the contact manager, where there is one, under the next two. The period is the helm's, at most 1,000,000
+    /// and uSimMarine and the contact manager, if there is one, under the next two. The period is the helm's, at most 1,000,000
     /// milliseconds.
     pub fn launch<R: Wait>(
         rt: &R,
@@ -91,7 +91,7 @@ fn open_sim<R: Wait>(
     Ok(())
 }
 
-// pBasicContactMgr registers, where there are ranges, and is given as it is before its first turn.
+// pBasicContactMgr registers, if there are ranges, and is given as it is before its first turn.
 fn open_mgr<R: Wait>(
     rt: &R,
     alloc: Global,

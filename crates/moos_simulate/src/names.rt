@@ -6,7 +6,7 @@ ghost use Rattle.moos_simulate.specs.Simulated.{vehicle_names};
 use moos_post::{List, Name, Names, NoMemory};
 use std::alloc::{AllocError, Global};
 
-/// The names of the clients of a vehicle, in their order: `pMarinePID`, `uSimMarine`, and `pBasicContactMgr` where contacts are watched.
+/// The names of the clients of a vehicle, in their order: `pMarinePID`, `uSimMarine`, and `pBasicContactMgr` if contacts are watched.
 pub fn vehicle_names(alloc: Global, watched: bool) -> Result<Names, NoMemory>
     ensures { IfOk result (λ names. names ≡ vehicle_names watched) }
 {

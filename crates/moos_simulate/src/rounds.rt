@@ -15,7 +15,7 @@ use std::sync::Wait;
 use std::thread::Threads;
 
 impl Vehicle {
-    /// Plays the next round, and has the vehicle's clients answer the helm's tick, where there is one in it. None where nothing is left.
+    /// Plays the next round, and has the vehicle's clients answer the helm's tick, if there is one in it. None if nothing is left.
     /// After want of memory the history is that of a simulated vehicle still, as far as it goes. There are 1 to 16 workers for what
     /// the helm solves.
     pub fn round<R: Threads + Wait + Sync, G: Gate>(
@@ -80,7 +80,7 @@ impl Vehicle {
         Ok(())
     }
 
-    // The turn of the contact manager, where there is one, once the others have made theirs.
+    // The turn of the contact manager, if there is one, once the others have made theirs.
     fn watch<R: Wait>(
         &mut self,
         rt: &R,

@@ -16,7 +16,7 @@ use std::alloc::Global;
 use std::sync::Wait;
 
 /// A simulated vehicle in a play: its gear, the milliseconds from one turn to the next, and its clients with their numbers. It has a
-/// contact manager where its gear has ranges.
+/// contact manager if its gear has ranges.
 #[derive(Drop)]
 pub struct Vehicle {
     /// What it has aboard.
@@ -55,7 +55,7 @@ impl Vehicle {
         Ok(())
     }
 
-    // uSimMarine's turn at a stamp: it fetches, moves the vehicle, and posts where it is then.
+    // uSimMarine's turn at a stamp: it fetches, moves the vehicle, and posts if it is then.
     pub(crate) fn sail<R: Wait>(
         &mut self,
         rt: &R,

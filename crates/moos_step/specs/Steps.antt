@@ -35,7 +35,7 @@ Anything client added = Unit {0}
 abbrev pub IsAlone : ℕ → ℕ → List Entry → Type 0
 IsAlone helm client added = client ≢ helm → added ≡ []
 
--- What a client may make of these lines: a front of its own among them, and all of these where no memory was missing.
+-- What a client may make of these lines: a front of its own among them, and all of these if no memory was missing.
 pub record IsPlayed {E : Type 0} (lines : List Entry) (result : Result (Unit {0}) E) (client : ℕ) (added : List Entry) : Type 0 where
   pub front : Begins (entries_of client lines) added
   pub all : OnOk result (added ≡ entries_of client lines)
@@ -44,7 +44,7 @@ pub record IsPlayed {E : Type 0} (lines : List Entry) (result : Result (Unit {0}
 abbrev pub IsPlayedBeside : {E : Type 0} → ℕ → List Entry → Result (Unit {0}) E → ℕ → List Entry → Type 0
 IsPlayedBeside helm lines result client added = client ≢ helm → IsPlayed lines result client added
 
--- the player has played its lines among these, or a front of them where it found no memory
+-- the player has played its lines among these, or a front of them if it found no memory
 abbrev pub HasEnded : List Entry → Player → Player → Type 0
 HasEnded lines before after = Makes (IsPlayed lines after.ended) before.seat after.seat
 
@@ -62,7 +62,7 @@ abbrev pub busy_below : List Entry → ℕ → ℕ
 busy_below lines zero = 0
 busy_below lines (suc client) = if nat_lt 0 client && has_line client lines then suc (busy_below lines client) else busy_below lines client
 
--- the least client from one number on that has some of the lines, or a limit where none below that has
+-- the least client from one number on that has some of the lines, or a limit if none below that has
 pub record IsNextBusy (lines : List Entry) (from limit next : ℕ) : Type 0 where
   pub above : from ≤ next
   pub within : next ≤ limit
@@ -144,11 +144,11 @@ pub record EndsStep (lines : List Entry) (stamp from to : ℕ) : Type 0 where
   pub within : to ≤ length lines
   pub one : IsTrue (list_all (λ line. line.stamp == stamp) (take (to - from) (drop from lines)))
 
--- the mail of a call that a client makes behind a history: what the delivery rule gives where it fetches, and nothing else
+-- the mail of a call that a client makes behind a history: what the delivery rule gives if it fetches, and nothing else
 abbrev pub mail_of_call : List (List ℕ) → History → ℕ → Call → List Letter
 mail_of_call names history client call = if is_fetch call then letters_after names client history else []
 
--- what a call adds to the history: its entry, or nothing where it found no memory
+-- what a call adds to the history: its entry, or nothing if it found no memory
 abbrev pub added_by : {A E : Type 0} → Result A E → Entry → List Entry
 added_by (Ok _) entry = entry ∷ []
 added_by (Err _) entry = []

@@ -29,10 +29,10 @@ pub fn call_alone<R: Wait>(
     ensures mail { IfOk result (λ mail. mail ≡ mail_of_call lock.now.base first.old.seen client call) }
 {
     let answer = if client == 0 {
-        make_call(rt, alloc, lock, first, stamp, call)
+        call_at(rt, alloc, lock, first, stamp, call)
     } else {
         let mut seat = lock.part(first, client);
-        let answer = make_call(rt, alloc, lock, &mut seat, stamp, call);
+        let answer = call_at(rt, alloc, lock, &mut seat, stamp, call);
         lock.meet(first, seat);
         answer
     };
@@ -40,8 +40,8 @@ pub fn call_alone<R: Wait>(
     answer
 }
 
-// Makes a call at the client's seat, and answers the mail where the client fetches.
-fn make_call<R: Wait>(
+// Makes a call at the client's seat, and answers the mail if the client fetches.
+fn call_at<R: Wait>(
     rt: &R,
     alloc: Global,
     lock: &Lock,

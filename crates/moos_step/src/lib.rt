@@ -2,7 +2,7 @@
 //! steps the seat of the first has taken in all others.
 //!
 //! The contract for the layer above: after a step the first seat has all others again and has seen the whole history, which goes on
-//! by just the lines of each client, in the client's order, whatever the threads did; where a client found no memory, by a front of
+//! by just the lines of each client, in the client's order, whatever the threads did; if a client found no memory, by a front of
 //! them. A call that one client makes while no other makes one adds just its entry.
 //!
 //! Reading order: `player`, one client's calls; `step`, the clients of a step beside each other; `alone`, one call; `seats`, how a

@@ -32,7 +32,7 @@ pub fn play_part<R: Wait, G: Gate>(
     requires { MayCall lock.now player.old.seat }
     ensures { HasEnded lines.now player.old player.new }
 {
-    player.ended = play_lines(
+    player.ended = make_calls(
         rt,
         alloc,
         lock,
@@ -44,7 +44,7 @@ pub fn play_part<R: Wait, G: Gate>(
 }
 
 // Makes the seat's calls among these lines, and counts them.
-fn play_lines<R: Wait, G: Gate>(
+fn make_calls<R: Wait, G: Gate>(
     rt: &R,
     alloc: Global,
     lock: &Lock,

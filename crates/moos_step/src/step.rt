@@ -16,7 +16,7 @@ use std::sync::Wait;
 use std::thread::{Threads, for_each_mut, join_mut};
 
 /// Plays these lines in one step. A client without lines leaves its seat with the first, and one that alone has lines
-/// plays without a thread. Also where memory is missing the first has all seats again, and each client has played a front
+/// plays without a thread. Also if memory is missing the first has all seats again, and each client has played a front
 /// of its lines.
 pub fn play_step<R: Threads + Wait + Sync, G: Gate>(
     rt: &R,
@@ -49,7 +49,7 @@ fn has_lines(lines: &[Entry], client: u32) -> bool
     lines.iter().any(|line| line.client == client)
 }
 
-/// Ok where both are.
+/// Ok if both are.
 pub fn both(one: &Result<(), NoMemory>, other: Result<(), NoMemory>) -> Result<(), NoMemory>
     ensures { OnOk result ((one.now ≡ Ok tt) × (other ≡ Ok tt)) }
 {
@@ -72,7 +72,7 @@ fn player_at(seat: Seat, calls: &[u64]) -> Player
     }
 }
 
-// The least client from one number on that has lines, or as many as there are clients where none of them has.
+// The least client from one number on that has lines, or as many as there are clients if none of them has.
 fn next_busy(lines: &[Entry], from: u32, clients: u32) -> u32
     requires { from ≤ clients }
     ensures { IsNextBusy lines.now from clients result }
@@ -103,7 +103,7 @@ fn count_busy(lines: &[Entry], clients: u32) -> usize
     busy
 }
 
-/// Parts from the first seat those of all other clients that have lines, and makes room for no more of them. Where no memory
+/// Parts from the first seat those of all other clients that have lines, and makes room for no more of them. If no memory
 /// is left none is parted. It looks through the lines twice for each of these clients and twice more, whatever the number of
 /// the others.
 pub fn part_busy(
@@ -130,7 +130,7 @@ pub fn part_busy(
     Ok(players)
 }
 
-/// Has the client of the first seat, where it has lines, and the players make their calls beside each other.
+/// Has the client of the first seat, if it has lines, and the players make their calls beside each other.
 pub fn play_beside<R: Threads + Wait + Sync, G: Gate>(
     rt: &R,
     alloc: Global,
@@ -182,7 +182,7 @@ fn play_all<R: Threads + Wait + Sync, G: Gate>(
     );
 }
 
-// Has each player make its calls, on a thread of its own where there are several.
+// Has each player make its calls, on a thread of its own if there are several.
 fn play_each<R: Threads + Wait + Sync, G: Gate>(
     rt: &R,
     alloc: Global,
@@ -226,7 +226,7 @@ fn leave(player: Player, calls: &mut [u64]) -> (Seat, Result<(), NoMemory>)
     (seat, ended)
 }
 
-/// Takes the seats of all players into the first. It is an error where a player found no memory.
+/// Takes the seats of all players into the first. It is an error if a player found no memory.
 pub fn take_in(
     lock: &Lock,
     first: &mut Seat,

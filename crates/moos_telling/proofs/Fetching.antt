@@ -17,7 +17,7 @@ use Rattle.moos_post.specs.declared.entry.Entry.{Entry}
 use Rattle.moos_post.specs.Delivery.{is_fetch}
 use Rattle.moos_post.specs.History.{History}
 use Rattle.moos_client.specs.Hearing.{heard_in}
-use Rattle.moos_play.specs.Lawful.{heard_of, helm_number, names_with, opening_of, Steering, tick_entries, ticks_of, mailed_in}
+use Rattle.moos_play.specs.Lawful.{heard_of, helm_number, names_with, opening_of, HelmSetup, tick_entries, ticks_of, mailed_in}
 use Rattle.moos_play.specs.Plays.{clients_in, HasSteeredSoFar, HasTicked, helm_in, history_in, IsRunFor, iterations_by, iterations_made, Playing, script_played}
 use Rattle.moos_report.specs.IterationLines.{helm_fetches, is_helm, is_helm_fetch, is_helm_post, is_posting}
 use Rattle.moos_report.specs.Parts.{EndsWithin}
@@ -45,7 +45,7 @@ helm_named (name ∷ names) further good others zero = not_true _ (and_parts _ _
 helm_named (name ∷ names) further good others (suc client) = helm_named names further (and_parts _ (are_clients names) good).1 others client ∙ sym (eqb-suc-suc client (length names))
 
 -- so it is with the names of a valid script, its helm, where there is one, and further ones
-pub named_beside : (script : Script) (helm : Option Steering) (further : List (List ℕ)) → IsValid script → ((client : ℕ) → is_helm further client ≡ false) → (helm ≡ None → further ≡ [])
+pub named_beside : (script : Script) (helm : Option HelmSetup) (further : List (List ℕ)) → IsValid script → ((client : ℕ) → is_helm further client ≡ false) → (helm ≡ None → further ≡ [])
     → IsHelmNamed (names_with script helm ++ further) script helm
 named_beside script None further valid others alone =
     subst (λ names. (client : ℕ) → is_helm names client ≡ false) (sym (ap (λ further. script.names ++ further) (alone refl) ∙ append-nil script.names)) (none_named script.names valid.clients)
@@ -143,15 +143,15 @@ module _ (names : List (List ℕ)) (number : ℕ) (named : (client : ℕ) → is
   )
 
 -- each tick has two entries, of which the first is a fetch
-ticks_many : (helm : Steering) (heard : List Tick) (n : ℕ) → length (ticks_of helm heard n) ≡ 2 * n
+ticks_many : (helm : HelmSetup) (heard : List Tick) (n : ℕ) → length (ticks_of helm heard n) ≡ 2 * n
 ticks_many helm heard zero = refl
 ticks_many helm heard (suc n) = omega (arith, length-append (ticks_of helm heard n) (tick_entries helm heard n), ticks_many helm heard n)
 
-fetching_more : (helm : Steering) (heard : List Tick) (n : ℕ) (entries : List Entry) → BeginsFetching entries → BeginsFetching (entries ++ tick_entries helm heard n)
+fetching_more : (helm : HelmSetup) (heard : List Tick) (n : ℕ) (entries : List Entry) → BeginsFetching entries → BeginsFetching (entries ++ tick_entries helm heard n)
 fetching_more helm heard n [] begins = refl
 fetching_more helm heard n (entry ∷ entries) begins = begins
 
-ticks_begin : (helm : Steering) (heard : List Tick) (first n : ℕ) → BeginsFetching (drop (2 * first) (ticks_of helm heard n))
+ticks_begin : (helm : HelmSetup) (heard : List Tick) (first n : ℕ) → BeginsFetching (drop (2 * first) (ticks_of helm heard n))
 ticks_begin helm heard first zero = subst BeginsFetching (sym (drop_all {X = Entry} (2 * first) [] (omega arith))) tt
 ticks_begin helm heard first (suc n) = by (nat_le first n) refl (ticks_begin helm heard first n)
   where
@@ -168,7 +168,7 @@ ticks_begin helm heard first (suc n) = by (nat_le first n) refl (ticks_begin hel
         subst BeginsFetching (sym (drop_all (2 * first) (front ++ tick_entries helm heard n) (omega (arith, past, ticks_many helm heard (suc n))))) tt
 
 -- from one stand of the helm to a later one it fetches first
-steered_on : (names : List (List ℕ)) (helm : Steering) (m n : ℕ) (history part : History) → HasTicked names helm m history → HasTicked names helm n (history ++ part) → BeginsFetching (entries_of helm.client part)
+steered_on : (names : List (List ℕ)) (helm : HelmSetup) (m n : ℕ) (history part : History) → HasTicked names helm m history → HasTicked names helm n (history ++ part) → BeginsFetching (entries_of helm.client part)
 steered_on names helm m n history part before after = subst BeginsFetching (sym parts) (ticks_begin helm heard m n)
   where
     heard : List Tick
@@ -187,7 +187,7 @@ steered_on names helm m n history part before after = subst BeginsFetching (sym 
         ∙ sym (drop-drop (2 * m) (length front) (front ++ ticks_of helm heard n)) ∙ ap (drop (2 * m)) (drop_at front (ticks_of helm heard n) (length front) refl)
 
 -- the helm of a play has fetched as often as it has made iterations
-counted : (script : Script) (names : List (List ℕ)) (helm : Option Steering) (made : List Iteration) (history : History) → IsHelmNamed names script helm → (helm ≡ None → made ≡ []) → IfSome helm (λ helm. helm.client ≡ helm_number script)
+counted : (script : Script) (names : List (List ℕ)) (helm : Option HelmSetup) (made : List Iteration) (history : History) → IsHelmNamed names script helm → (helm ≡ None → made ≡ []) → IfSome helm (λ helm. helm.client ≡ helm_number script)
     → IfSome helm (λ helm. HasTicked names helm (length made) history) → helm_fetches names history ≡ length made
 counted script names None made history named none number ticked = sym (length-filter (is_helm_fetch names) history) ∙ none_in history ∙ sym (ap length (none refl))
   where
@@ -205,7 +205,7 @@ counted script names (Some helm) made history named none number ticked =
     ∙ ap (λ number. length (heard_of names number history)) (sym number) ∙ ticked.many
 
 -- the part between two rounds has the iterations that are made in it
-pub part_ends : (script : Script) (names : List (List ℕ)) (helm : Option Steering) (old new : List Iteration) (history part : History) → IsHelmNamed names script helm → (helm ≡ None → old ≡ []) → (helm ≡ None → new ≡ [])
+pub part_ends : (script : Script) (names : List (List ℕ)) (helm : Option HelmSetup) (old new : List Iteration) (history part : History) → IsHelmNamed names script helm → (helm ≡ None → old ≡ []) → (helm ≡ None → new ≡ [])
     → IfSome helm (λ helm. helm.client ≡ helm_number script) → IfSome helm (λ helm. HasTicked names helm (length old) history) → IfSome helm (λ helm. HasTicked names helm (length new) (history ++ part))
     → EndsWithin names history (length old) (length new) part
 part_ends script names None old new history part named none none' number before after = ends_none names history part (length old) (length new) named
@@ -222,7 +222,7 @@ pub record IsRunWell (play : Playing) : Type 0 where
   pub steered : HasSteeredSoFar play
 
 -- its helm, where there is one, has the number behind the script's clients
-pub helm_behind : (script : Script) (made : ℕ) (helm : Option Steering) → IfSome helm (IsRunFor script made) → IfSome helm (λ helm. helm.client ≡ helm_number script)
+pub helm_behind : (script : Script) (made : ℕ) (helm : Option HelmSetup) → IfSome helm (IsRunFor script made) → IfSome helm (λ helm. helm.client ≡ helm_number script)
 helm_behind script made None run = tt
 helm_behind script made (Some helm) run = run.client
 

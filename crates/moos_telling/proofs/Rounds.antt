@@ -10,7 +10,7 @@ use Rattle.moos_io.specs.Pieces.{Took, TookFront}
 use Rattle.moos_io.proofs.Writing.{fell_later}
 use Rattle.moos_post.specs.History.{History}
 use Rattle.moos_play.specs.declared.round_made.Round.{Round}
-use Rattle.moos_play.specs.Lawful.{Steering}
+use Rattle.moos_play.specs.Lawful.{HelmSetup}
 use Rattle.moos_play.specs.Plays.{clients_in, GoesOnWith, HasTicked, helm_in, history_in, IsRunFor, iterations_made, Playing, script_played, StaysSeated}
 use Rattle.moos_report.proofs.KeptLines.{lines_on}
 use Rattle.moos_report.specs.declared.setup.Setup.{Setup}
@@ -187,6 +187,6 @@ end_told setup play MayBe before between after first then last (Err failed) stat
 pub few_made : (play : Playing) → IsRunWell play → length (iterations_made play) ≤ 1000000001
 few_made play well = few (helm_in play) (λ none. none_without play none) well.helm
   where
-    few : (helm : Option Steering) → (helm ≡ None → iterations_made play ≡ []) → IfSome helm (IsRunFor (script_played play) (length (iterations_made play))) → length (iterations_made play) ≤ 1000000001
+    few : (helm : Option HelmSetup) → (helm ≡ None → iterations_made play ≡ []) → IfSome helm (IsRunFor (script_played play) (length (iterations_made play))) → length (iterations_made play) ≤ 1000000001
     few None none run = omega (arith, ap length (none refl))
     few (Some helm) none run = omega (arith, run.few, div-le_self (script_played play).stop helm.period, well.valid.early)

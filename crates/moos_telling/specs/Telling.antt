@@ -2,7 +2,7 @@
 use Rattle.std.specs.Prelude.{◌≡◌, ℕ, ◌⊎◌, ◌==◌, false, List, Option, None, Some}
 use Rattle.moos_io.specs.Faults.{Fell}
 use Rattle.moos_io.specs.Pieces.{Took, TookFront}
-use Rattle.moos_play.specs.Lawful.{helm_number, Steering}
+use Rattle.moos_play.specs.Lawful.{helm_number, HelmSetup}
 use Rattle.moos_play.specs.Plays.{clients_in, history_in, iterations_made, Playing}
 use Rattle.moos_report.specs.declared.setup.Setup.{Setup}
 use Rattle.moos_report.specs.IterationLines.{is_helm}
@@ -16,8 +16,8 @@ use Rattle.script_reader.specs.declared.script.Script.{Script}
 abbrev pub IsToldSoFar : Setup → Option (List ℕ) → Option (List ℕ) → Playing → Type 0
 IsToldSoFar setup before after play = Took before after (front_text setup (clients_in play) (history_in play) (iterations_made play))
 
--- among these names the helm's stands at its number, where there is a helm, and nowhere else
-abbrev pub IsHelmNamed : List (List ℕ) → Script → Option Steering → Type 0
+-- among these names the helm's is at its number, if there is a helm, and nowhere else
+abbrev pub IsHelmNamed : List (List ℕ) → Script → Option HelmSetup → Type 0
 IsHelmNamed names script None = (client : ℕ) → is_helm names client ≡ false
 IsHelmNamed names script (Some helm) = (client : ℕ) → is_helm names client ≡ (client == helm_number script)
 
@@ -34,7 +34,7 @@ pub record ToldFront (MayBe : List ℕ → Type 0) (sink : Sinking) : Type 0 whe
   pub took : TookFront sink.taken_before sink.taken_after text
 
 -- how a play ends that is told as it comes, and whose report may be one of these texts: with the whole report, or with a front of one
--- where the sink failed, or nothing or a front where no memory was left
+-- if the sink failed, or nothing or a front if no memory was left
 abbrev pub Tells : (List ℕ → Type 0) → Sinking → Status → Type 0
 Tells MayBe sink Done = ToldAll MayBe sink
 Tells MayBe sink WriteFault = ToldFront MayBe sink × Fell sink.faults_before sink.faults_after sink.taken_after

@@ -14,7 +14,7 @@ use moos_play::{Play, Round};
 use moos_report::{PostLines, Setup, report_end, report_head, report_part_through};
 use std::sync::Wait;
 
-/// Tells how a play begins: its clients, and the entries so far, among which no iteration ends. The lines of posts are kept where
+/// Tells how a play begins: its clients, and the entries so far, among which no iteration ends. The lines of posts are kept if
 /// there is memory.
 pub fn tell_opening<R: Wait, K: Sink>(
     rt: &R,
@@ -59,8 +59,8 @@ fn report_front<K: Sink>(
     report_part_through(setup, db, 0, 0, &[], lines, &mut buffer, out)
 }
 
-/// Tells what a round brought, where the helm has made so many iterations before, through an empty buffer: the entries from the
-/// round's first one on, and its iterations behind those that end them. The lines of posts are kept where there is memory.
+/// Tells what a round brought, if the helm has made so many iterations before, through an empty buffer: the entries from the
+/// round's first one on, and its iterations behind those that end them. The lines of posts are kept if there is memory.
 pub fn tell_part<R: Wait, K: Sink>(
     rt: &R,
     play: &mut Play,

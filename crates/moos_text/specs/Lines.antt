@@ -1,13 +1,13 @@
--- The lines of a file, what of a line counts, and the words that stand in it.
+-- The lines of a file, what of a line counts, and the words that are in it.
 use Rattle.std.specs.Prelude.{ℕ, max, Bool, false, not, ◌&&◌, ◌||◌, ◌==◌, if◌then◌else◌, List, [], ◌∷◌, length, drop, fold, reverse}
 use Rattle.std.specs.List.{before_first, position_or_len}
 
--- the byte in front of the first of these lines, or as a line of its own where there is none
+-- the byte in front of the first of these lines, or as a line of its own if there is none
 abbrev pub onto_first : ℕ → List (List ℕ) → List (List ℕ)
 onto_first byte [] = (byte ∷ []) ∷ []
 onto_first byte (line ∷ lines) = (byte ∷ line) ∷ lines
 
--- a line ends at a line feed, or at the end of the file where bytes stand after the last line feed
+-- a line ends at a line feed, or at the end of the file if bytes are after the last line feed
 abbrev pub raw_lines : List ℕ → List (List ℕ)
 raw_lines [] = []
 raw_lines (byte ∷ bytes) = if byte == 10 then [] ∷ raw_lines bytes else onto_first byte (raw_lines bytes)
@@ -26,7 +26,7 @@ ends_with last [] = false
 ends_with last (byte ∷ []) = byte == last
 ends_with last (byte ∷ next ∷ rest) = ends_with last (next ∷ rest)
 
--- the bytes, without this one where they end with it
+-- the bytes, without this one if they end with it
 abbrev pub without_last : ℕ → List ℕ → List ℕ
 without_last last [] = []
 without_last last (byte ∷ []) = if byte == last then [] else byte ∷ []
@@ -84,10 +84,10 @@ abbrev pub words_of : List ℕ → List (List ℕ)
 words_of [] = []
 words_of (byte ∷ bytes) = if is_blank byte then words_of bytes else onto_word byte bytes (words_of bytes)
 
--- the first word, empty where there is none
+-- the first word, empty if there is none
 abbrev pub first_word : List ℕ → List ℕ
 first_word bytes = before_first is_blank (without_front_blanks bytes)
 
--- what stands behind the first word, blanks and all
+-- what follows the first word, blanks and all
 abbrev pub behind_word : List ℕ → List ℕ
 behind_word bytes = drop (position_or_len is_blank (without_front_blanks bytes)) (without_front_blanks bytes)

@@ -17,7 +17,7 @@ is_numeral most whole decimals =
     list_all is_digit whole && list_all is_digit decimals && nat_le 1 (length whole + length decimals)
     && nat_le (thousandths_of whole decimals) most
 
--- where the first point stands, or the end
+-- where the first point is, or the end
 abbrev pub point_place : List ℕ → ℕ
 point_place text = position_or_len (λ byte. byte == 46) text
 
@@ -53,7 +53,7 @@ whole_of text = option_and_then whole_part (milli_of text)
 abbrev pub digit_text : ℕ → List ℕ
 digit_text digit = (48 + digit) ∷ []
 
--- a number below 1,000 as a point and its decimals without trailing zeros, and nothing where it is 0
+-- a number below 1,000 as a point and its decimals without trailing zeros, and nothing if it is 0
 abbrev pub decimals_text : ℕ → List ℕ
 decimals_text rest =
     if rest == 0 then []

@@ -14,12 +14,12 @@ use Rattle.moos_text.specs.Numbers.{milli_of}
 abbrev pub is_equals : ℕ → Bool
 is_equals byte = byte == 61
 
--- what stands before the first `=` of a text and behind it, without blanks at the ends
+-- what is before the first `=` of a text and behind it, without blanks at the ends
 pub record Sides : Type 0 where
   pub name : List ℕ
   pub value : List ℕ
 
--- both sides of the first `=`, where there is one
+-- both sides of the first `=`, if there is one
 abbrev pub sides_of : List ℕ → Option Sides
 sides_of text =
     if nat_lt (position_or_len is_equals text) (length text)
@@ -37,17 +37,17 @@ text_value bytes =
     else if nat_lt 4096 (length bytes) then Err TooLong
     else Ok (Text bytes)
 
--- what stands behind a `"` is a text up to another `"`, which is the last byte and has no third before it
+-- what follows a `"` is a text up to another `"`, which is the last byte and has no third before it
 abbrev pub quoted_value : List ℕ → Result Value PairFault
 quoted_value rest =
     if position_or_len is_quote rest + 1 == length rest then text_value (before_first is_quote rest) else Err BadValue
 
--- a number where the bytes are one, and else a text
+-- a number if the bytes are one, and else a text
 abbrev pub plain_value : Option ℤ → List ℕ → Result Value PairFault
 plain_value (Some number) bytes = Ok (Num number)
 plain_value None bytes = text_value bytes
 
--- the value that stands on the right: quoted, or not empty and a text where it must be one
+-- the value that stands on the right: quoted, or not empty and a text if it must be one
 abbrev pub written_value : Bool → List ℕ → Result Value PairFault
 written_value as_text [] = Err BadValue
 written_value as_text (first ∷ rest) =

@@ -1,4 +1,4 @@
--- How a number is read in one pass: the digits at its front, and what stands behind them.
+-- How a number is read in one pass: the digits at its front, and what follows them.
 use Rattle.std.specs.Prelude.{◌≡◌, ℕ, suc, ◌<◌, ◌≤◌, true, false, List, length, take, drop, slice_index}
 use Rattle.std.specs.List.{list_all}
 use Rattle.moos_post.specs.Words.{is_digit}
@@ -10,7 +10,7 @@ pub record IsFront (count : ℕ) (text : List ℕ) : Type 0 where
   pub digits : list_all is_digit (take count text) ≡ true
   pub ends : count < length text → is_digit (slice_index text count) ≡ false
 
--- so many bytes stand before the first point, or are all where there is none, and these stand behind it
+-- so many bytes are before the first point, or are all if there is none, and these follow it
 pub record IsParted (text : List ℕ) (count : ℕ) (decimals : List ℕ) : Type 0 where
   pub point : point_place text ≡ count
   pub rest : drop (suc count) text ≡ decimals

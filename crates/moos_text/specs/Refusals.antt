@@ -1,4 +1,4 @@
--- What a reader of a file answers where it doesn't give the file's value.
+-- What a reader of a file answers if it doesn't give the file's value.
 use Rattle.std.specs.Prelude.{◌≡◌, ℕ, Result, Ok, Err}
 use Rattle.moos_text.specs.declared.cause.Cause.{Cause}
 use Rattle.moos_text.specs.declared.cause.LineFault.{LineFault}

@@ -18,7 +18,7 @@ abbrev pub stated : ℕ → List ℕ → List Statement → List Statement
 stated line [] behind = behind
 stated line (byte ∷ bytes) behind = record { line = line; text = byte ∷ bytes } ∷ behind
 
--- the lines that say something, where so many lines stand before them: what counts of each, without blanks at its ends
+-- the lines that say something, if so many lines are before them: what counts of each, without blanks at its ends
 abbrev pub statements_from : ℕ → List (List ℕ) → List Statement
 statements_from before [] = []
 statements_from before (raw ∷ raws) = stated (suc before) (trimmed (content_of raw)) (statements_from (suc before) raws)
@@ -28,7 +28,7 @@ abbrev pub statements_of : List ℕ → List Statement
 statements_of bytes = statements_from 0 (raw_lines bytes)
 
 -- A line outside blocks; or a block: the line that opens it, the lines behind that one up to the line that closes it, and
--- that line, where there is one.
+-- that line, if there is one.
 pub data Section : Type 0 where
   Loose : Statement → Section
   Block : Statement → List Statement → Option Statement → Section
@@ -76,7 +76,7 @@ behind_brace form last [] None = Err (At last form.unclosed)
 behind_brace form last [] (Some close) = Err (At close.line form.bad)
 behind_brace form last (said ∷ behind) close = if bytes_eq said.text (codes "{") then Ok behind else Err (At said.line form.bad)
 
--- the lines of a block: its `{` ends the line that opens it, or stands alone on the next one
+-- the lines of a block: its `{` ends the line that opens it, or is alone on the next one
 abbrev pub in_braces : {W B : Type 0} → Form W B → ℕ → Statement → List Statement → Option Statement → Result (List Statement) ReadFault
 in_braces form last head lines close = if ends_with 123 head.text then Ok lines else behind_brace form last lines close
 
@@ -94,6 +94,6 @@ abbrev pub with_sections : {W B : Type 0} → Form W B → ℕ → W → List Se
 with_sections form last whole [] = Ok whole
 with_sections form last whole (section ∷ behind) = and_then (λ more. with_sections form last more behind) (with_section form last whole section)
 
--- What is made of the bytes of a file, from what stands before its first line.
+-- What is made of the bytes of a file, from what is before its first line.
 abbrev pub made_of_file : {W B : Type 0} → Form W B → W → List ℕ → Result W ReadFault
 made_of_file form start bytes = with_sections form (last_line bytes) start (sections_of form.opens form.closes 0 (statements_of bytes))

@@ -7,7 +7,7 @@ use Rattle.moos_text.specs.Lines.{content_of, ends_with, trimmed}
 use Rattle.moos_text.specs.Refusals.{and_then}
 use Rattle.moos_text.specs.Sections.{Form, made_of, Statement}
 
--- where a reader stands: outside blocks, behind a line that opens one, or between its braces
+-- where a reader is: outside blocks, behind a line that opens one, or between its braces
 pub data Standing (W B : Type 0) : Type 0 where
   Outside : W → Standing W B
   Opened : B → Standing W B
@@ -27,7 +27,7 @@ after_statement form (Inside block) said =
     if form.closes said.text then and_then (λ whole. Ok (Outside whole)) (form.close block said)
     else and_then (λ more. Ok (Inside more)) (form.inside block said)
 
--- one line more by its number and its text, which says nothing where it is blank
+-- one line more by its number and its text, which says nothing if it is blank
 abbrev pub after_text : {W B : Type 0} → Form W B → ℕ → Standing W B → List ℕ → Result (Standing W B) ReadFault
 after_text form line standing [] = Ok standing
 after_text form line standing (byte ∷ bytes) = made_of form.bad (after_statement form) standing (record { line = line; text = byte ∷ bytes })
@@ -42,7 +42,7 @@ at_end form last (Outside whole) = Ok whole
 at_end form last (Opened block) = Err (At last form.unclosed)
 at_end form last (Inside block) = Err (At last form.unclosed)
 
--- What lines come to one after another, from a state on, where so many stand before them.
+-- What lines come to one after another, from a state on, if so many are before them.
 abbrev pub read_lines : {S : Type 0} → (ℕ → S → List ℕ → Result S ReadFault) → ℕ → S → List (List ℕ) → Result S ReadFault
 read_lines after before state [] = Ok state
 read_lines after before state (raw ∷ raws) = and_then (λ next. read_lines after (suc before) next raws) (after (suc before) state raw)

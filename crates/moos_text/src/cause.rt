@@ -23,7 +23,7 @@ pub enum Limit {
 }
 
 /// Why a reader refuses a file: `S` in a script, `M` in a mission, `B` in a behaviour file, `P` in a problem or a
-/// decision, `G` in a bridge file, `V` in a vehicle file and `C` in a contacts file. `S10` and `S11` are given where a job
+/// decision, `G` in a bridge file, `V` in a vehicle file and `C` in a contacts file. `S10` and `S11` are given if a job
 /// adds clients of its own.
 #[derive(Clone, Copy, Debug, PartialEq, Eq)]
 pub enum Cause {
@@ -173,7 +173,7 @@ impl From<Cause> for LineFault {
 }
 
 impl LineFault {
-    /// The fault of the file where this is the fault of its line of this number, counted from 1.
+    /// The fault of the file if this is the fault of its line of this number, counted from 1.
     pub fn at(self, line: u32) -> ReadFault
         ensures { result ≡ fault_at line self }
     {

@@ -10,7 +10,7 @@ pub fn ends_with(bytes: &[u8], last: u8) -> bool
     bytes.len() > 0 && bytes[bytes.len() - 1] == last
 }
 
-/// The bytes, without this one where they end with it.
+/// The bytes, without this one if they end with it.
 #[tactic(auto, using(crate::proofs::Ends::with_last, crate::proofs::Ends::no_last))]
 pub fn without_last(bytes: &[u8], last: u8) -> &[u8]
     ensures value { result.now ≡ without_last last bytes.now }

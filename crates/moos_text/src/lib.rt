@@ -26,4 +26,4 @@ pub use number::{read_milli, read_unsigned, read_whole};
 pub use pair::{PairFault, cut_at_equals, read_pair, read_plain, read_text};
 pub use part::{Part, next_part};
 pub use trim::{trimmed, without_front_blanks};
-pub use word::{is_named, next_word};
+pub use word::{is_named, next_word, split_word};

@@ -48,8 +48,8 @@ pub fn next_line(bytes: &[u8], from: usize) -> Line
     }
 }
 
-/// The first line of a text, without its end and with all that may be a comment, and what stands behind it; `None`
-/// exactly where the text is empty.
+/// The first line of a text, without its end and with all that may be a comment, and what follows it; `None`
+/// exactly if the text is empty.
 pub fn next_whole_line(text: &[u8]) -> Option<(&[u8], &[u8])>
     ensures none { IfNone result (text.now ≡ []) }
     ensures line { IfSome result (λ found. found.0.now ≡ without_return (first_line text.now)) }
@@ -63,10 +63,10 @@ pub fn next_whole_line(text: &[u8]) -> Option<(&[u8], &[u8])>
     Some((without_last(line, b'\r'), behind_first(text, line.len())))
 }
 
-/// What the first line of a text says, and what stands behind it.
+/// What the first line of a text says, and what follows it.
 #[derive(Clone, Copy)]
 pub struct Said<'a> {
-    /// What counts of the line, without blanks at its ends; empty where it says nothing.
+    /// What counts of the line, without blanks at its ends; empty if it says nothing.
     pub text: &'a [u8],
     /// Whether it leaves a quote open.
     pub unclosed: bool,
@@ -74,7 +74,7 @@ pub struct Said<'a> {
     pub rest: &'a [u8],
 }
 
-/// What the first line of a text says; `None` exactly where the text is empty.
+/// What the first line of a text says; `None` exactly if the text is empty.
 #[tactic(auto, using(crate::proofs::Quotes::trimmed_quotes))]
 pub fn next_said(text: &[u8]) -> Option<Said<'_>>
     ensures none { IfNone result (text.now ≡ []) }
@@ -94,7 +94,7 @@ pub fn next_said(text: &[u8]) -> Option<Said<'_>>
     })
 }
 
-// What stands behind the first line, which has so many bytes without its end.
+// What follows the first line, which has so many bytes without its end.
 fn behind_first(text: &[u8], len: usize) -> &[u8]
     requires some { 0 < length text.now }
     requires len { len ≡ length (first_line text.now) }
@@ -120,7 +120,7 @@ fn first_line(bytes: &[u8], from: usize) -> &[u8]
     &rest[..line_end(rest)]
 }
 
-// Where the first line feed stands, or the end.
+// Where the first line feed is, or the end.
 #[tactic(auto, using(crate::proofs::LineSteps::line_end_within))]
 fn line_end(bytes: &[u8]) -> usize
     ensures end { result ≡ position_or_len (λ byte. byte == 10) bytes.now }

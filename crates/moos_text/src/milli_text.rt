@@ -10,7 +10,7 @@ use std::marker::Model;
 /// A number as it prints, at most 24 bytes, which take no memory. Contracts see the bytes.
 #[derive(Debug, Drop)]
 pub struct MilliText {
-    // It is filled from its end: what was written stands from `start` on.
+    // It is filled from its end: what was written is from `start` on.
     buffer: [u8; 24],
     start: usize,
 }
@@ -35,7 +35,7 @@ impl MilliText {
     }
 }
 
-/// The number as it prints: `-` where it is below zero, the whole part without leading zeros, and where the rest isn't
+/// The number as it prints: `-` if it is below zero, the whole part without leading zeros, and if the rest isn't
 /// 0 a point and the decimals without trailing zeros. [`read_milli`](crate::read_milli) of it gives the number back.
 #[inline]
 #[tactic(auto, using(crate::proofs::RoundTrip::milli_back))]
@@ -48,7 +48,7 @@ pub fn print_milli(value: Milli) -> MilliText
     MilliText { buffer, start }
 }
 
-/// Thousandths without a sign as they print, as milliseconds do in seconds: the whole part without leading zeros, and where
+/// Thousandths without a sign as they print, as milliseconds do in seconds: the whole part without leading zeros, and if
 /// the rest isn't 0 a point and the decimals without trailing zeros. [`read_unsigned`](crate::read_unsigned) of it gives
 /// them back.
 #[inline]
@@ -62,7 +62,7 @@ pub fn print_unsigned(thousandths: u64) -> MilliText
     MilliText { buffer, start }
 }
 
-/// The decimals of a number as they print: a point and the decimals without trailing zeros, and nothing where they are 0.
+/// The decimals of a number as they print: a point and the decimals without trailing zeros, and nothing if they are 0.
 pub fn print_decimals(rest: u64) -> MilliText
     requires { rest < 1000 }
     ensures { result ≡ decimals_text rest }
@@ -99,7 +99,7 @@ fn write_unsigned(n: u64, buffer: &mut [u8; 24]) -> usize
     write_digits(n / 1000, buffer, point)
 }
 
-// A number below 1,000 as a point and its decimals without trailing zeros, and nothing where it is 0.
+// A number below 1,000 as a point and its decimals without trailing zeros, and nothing if it is 0.
 fn write_decimals(rest: u64, buffer: &mut [u8; 24]) -> usize
     requires { rest < 1000 }
     ensures text { drop result buffer.new ≡ decimals_text rest }

@@ -10,7 +10,7 @@ use moos_post::Milli;
 /// The number of thousandths that a text stands for: a sign or none, then digits with at most one point, at least one
 /// digit in all. Decimals past the third are dropped.
 ///
-/// None exactly where the text is no such number, or its value is beyond 10^12 thousandths either way.
+/// None exactly if the text is no such number, or its value is beyond 10^12 thousandths either way.
 pub fn read_milli(text: &[u8]) -> Option<Milli>
     ensures { result ≡ milli_of text.now }
 {
@@ -29,7 +29,7 @@ fn read_size(text: &[u8]) -> Option<u64>
     read_unsigned(text, 1_000_000_000_000)
 }
 
-/// The whole number, not below zero, that a text stands for: a number without thousandths. None exactly where it is none.
+/// The whole number, not below zero, that a text stands for: a number without thousandths. None exactly if it is none.
 pub fn read_whole(text: &[u8]) -> Option<u32>
     ensures { result ≡ whole_of text.now }
 {
@@ -59,7 +59,7 @@ fn signed(negative: bool, thousandths: u64) -> Option<Milli>
 /// The number of thousandths that a text without a sign stands for: digits with at most one point, at least one digit in
 /// all. Decimals past the third are dropped.
 ///
-/// None exactly where the text is no such number, or its value is above `most`.
+/// None exactly if the text is no such number, or its value is above `most`.
 pub fn read_unsigned(text: &[u8], most: u64) -> Option<u64>
     requires { most ≤ 10 ^ 15 }
     ensures value { result ≡ unsigned_within most text.now }
@@ -98,7 +98,7 @@ fn decimals_behind(text: &[u8], whole: usize) -> Option<&[u8]>
 // A value above any number's whole part.
 const TOO_GREAT: u64 = 1_000_000_000_001;
 
-// The digits at the front of a text: how many, and the value that they spell, or `TOO_GREAT` where it is more.
+// The digits at the front of a text: how many, and the value that they spell, or `TOO_GREAT` if it is more.
 #[derive(Clone, Copy)]
 struct Digits {
     count: usize,

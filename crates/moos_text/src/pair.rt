@@ -18,7 +18,7 @@ pub enum PairFault {
     /// It has no `=`.
     #[error("no `=`")]
     NoEquals,
-    /// What stands before the first `=`, or before a `:` directly before it, is no name.
+    /// What is before the first `=`, or before a `:` directly before it, is no name.
     #[error("not a name")]
     BadName,
     /// The value is empty and unquoted, or badly quoted, or holds a byte that a text can't hold.
@@ -32,8 +32,8 @@ pub enum PairFault {
     NoMemory,
 }
 
-/// The pair that a text stands for: `VAR=value`, where the value is a number where it is one and else a text, or
-/// `VAR:=value`, where it is a text. A text may stand between two `"`. Blanks around both sides are dropped.
+/// The pair that a text stands for: `VAR=value`, where the value is a number if it is one and else a text, or
+/// `VAR:=value`, if it is a text. A text may be between two `"`. Blanks around both sides are dropped.
 ///
 /// A refusal is the first fault of the text in the order of [`PairFault`], or that no memory was left.
 pub fn read_pair(alloc: Global, text: &[u8]) -> Result<Pair, PairFault>
@@ -51,7 +51,7 @@ pub fn read_pair(alloc: Global, text: &[u8]) -> Result<Pair, PairFault>
     }
 }
 
-/// What stands before the first `=` of a text and behind it, without blanks at the ends; None exactly where there is none.
+/// What is before the first `=` of a text and behind it, without blanks at the ends; None exactly if there is none.
 pub fn cut_at_equals(text: &[u8]) -> Option<(&[u8], &[u8])>
     ensures { MatchOption result (sides_of text.now ≡ None) (λ cut. sides_of text.now ≡ Some (record { name = cut.0.now; value = cut.1.now })) }
 {
@@ -122,7 +122,7 @@ fn quote_at(text: &[u8]) -> Option<usize>
     text.iter().position(|&byte| byte == b'"')
 }
 
-/// A value without quotes: a number where the bytes are one, and else a text.
+/// A value without quotes: a number if the bytes are one, and else a text.
 pub fn read_plain(alloc: Global, side: &[u8]) -> Result<Value, PairFault>
     ensures value { IfOk result (λ value. plain_value (milli_of side.now) side.now ≡ Ok value) }
     ensures fault { IfErr result (λ fault. fault ≢ NoMemory → plain_value (milli_of side.now) side.now ≡ Err fault) }

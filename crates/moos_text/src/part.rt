@@ -11,7 +11,7 @@ pub struct Part {
     pub from: usize,
     /// Where it ends.
     pub to: usize,
-    /// Where the next part begins, behind the `#`, and None exactly where this is the last.
+    /// Where the next part begins, behind the `#`, and None exactly if this is the last.
     pub next: Option<usize>,
 }
 
@@ -36,7 +36,7 @@ pub fn next_part(text: &[u8], from: usize) -> Part
     }
 }
 
-// Where the first `#` outside quotes stands, or the end.
+// Where the first `#` outside quotes is, or the end.
 #[tactic(auto, using(crate::proofs::Parts::parts_begin, crate::proofs::Parts::part_more, crate::proofs::Parts::part_ends, crate::proofs::Parts::last_ends))]
 fn part_len(text: &[u8]) -> usize
     ensures within { result ≤ length text.now }

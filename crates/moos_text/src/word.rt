@@ -13,14 +13,14 @@ pub(crate) fn is_blank(byte: u8) -> bool
     byte == b' ' || byte == b'\t'
 }
 
-// Where the first blank stands.
+// Where the first blank is.
 fn first_blank(text: &[u8]) -> Option<usize>
     ensures { result ≡ position is_blank text.now }
 {
     text.iter().position(|&byte| is_blank(byte))
 }
 
-// How many bytes stand before the first blank.
+// How many bytes are before the first blank.
 #[tactic(auto, using(crate::proofs::WordLemmas::position_or_len_of))]
 fn bytes_before_blank(text: &[u8]) -> usize
     ensures { result ≡ position_or_len is_blank text.now }
@@ -28,7 +28,7 @@ fn bytes_before_blank(text: &[u8]) -> usize
     first_blank(text).unwrap_or(text.len())
 }
 
-/// The first word of a text, and what stands behind it; `None` exactly where no word stands in the text.
+/// The first word of a text, and what follows it; `None` exactly if no word is in the text.
 pub fn next_word(text: &[u8]) -> Option<(&[u8], &[u8])>
     ensures words { MatchOption result (words_of text.now ≡ []) (λ found. words_of text.now ≡ found.0.now ∷ words_of found.1.now) }
     ensures none { IfNone result ((first_word text.now ≡ []) × (behind_word text.now ≡ [])) }
@@ -40,6 +40,17 @@ pub fn next_word(text: &[u8]) -> Option<(&[u8], &[u8])>
         return None;
     }
     Some(found.split_at(bytes_before_blank(found)))
+}
+
+/// The first word, empty if there is none, and what follows it.
+pub fn split_word(text: &[u8]) -> (&[u8], &[u8])
+    ensures first { result.0.now ≡ first_word text.now }
+    ensures behind { result.1.now ≡ behind_word text.now }
+{
+    match next_word(text) {
+        Some(split) => split,
+        None => (b"".as_slice(), b"".as_slice()),
+    }
 }
 
 /// Whether a word is this name, in letters of either case.

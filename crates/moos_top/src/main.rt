@@ -15,9 +15,9 @@ fn main(rt: HostRuntime) -> ExitCode {
         }
         Err(status) => status,
     };
-    // A law does nothing. What this one says of runs holds of this run.
+    // A law is an empty function. What its contract says of runs holds of this run.
     run_law();
-    // Where standard error fails too, the exit status still tells.
+    // If standard error fails too, the exit status still tells.
     let _ = print_failure(&rt, &status);
     ExitCode::from(code(&status))
 }
@@ -38,7 +38,7 @@ fn command_line(rt: &HostRuntime) -> Result<Words, Status> {
     Ok(words)
 }
 
-// The line that standard error gets where the run didn't end well.
+// The line that standard error gets if the run didn't end well.
 fn print_failure(rt: &impl Eprint, status: &Status) -> io::Result<()> {
     match status {
         Status::Done | Status::CheckNo => Ok(()),

@@ -11,7 +11,7 @@ use std::thread::Threads;
 const COURSE_AND_SPEED: &str = "ProcessConfig = pHelmIvP\n{\nAppTick = 4\nbehaviors = alpha.bhv\n\
     domain = course:0:359:360\ndomain = speed:0:4:41\n}\n";
 
-// What stands before and behind the first of these words in a text.
+// What is before and behind the first of these words in a text.
 fn parted<'a>(text: &'a str, words: &str) -> (&'a str, &'a str) {
     text.split_once(words).unwrap_or((text, ""))
 }
@@ -274,7 +274,7 @@ fn behaviors_live_and_decide(rt: HostRuntime) {
     }
 }
 
-// As it stands in a report, with the marks before its lines.
+// As it is in a report, with the marks before its lines.
 #[test]
 fn a_decision_of_a_report_is_accepted(rt: HostRuntime) {
     let (_, out) = run_beside(&rt, rt.alloc(), &["play", "s.txt", "m.moos"], ALPHA);

@@ -42,7 +42,7 @@ fn said_by(name: &str) -> &'static str {
     }
 }
 
-// When a client makes its next line, where it has made so many: each registers at a stamp of its own.
+// When a client makes its next line, if it has made so many: each registers at a stamp of its own.
 fn stamp_of(name: &str, made: usize) -> &'static str {
     match made {
         0 if name == "a" => "0",
@@ -51,7 +51,7 @@ fn stamp_of(name: &str, made: usize) -> &'static str {
     }
 }
 
-// Adds the entry with number `k`: the next line of this client, where these clients have posted so far. A client gets each
+// Adds the entry with number `k`: the next line of this client, if these clients have posted so far. A client gets each
 // post from its registration on, and the latest one before it.
 fn add_entry(
     rt: &impl Abort,
@@ -89,7 +89,7 @@ fn add_entry(
     }
 }
 
-// The report of the history in which the lines of these clients stand in this order.
+// The report of the history in which the lines of these clients are in this order.
 fn report_of(rt: &impl Abort, alloc: Global, order: &[&'static str]) -> String {
     let mut text = String::new(alloc);
     let head = "%% moosdb play 1\n%% client 0 a\n%% client 1 b\n";
@@ -158,7 +158,7 @@ fn reports_are_of_the_history_that_came(rt: HostRuntime) {
     }
 }
 
-/// Holds client 0 at its first call until client 1 is at its own, and, where three workers are wanted, the first two at what
+/// Holds client 0 at its first call until client 1 is at its own, and, if three workers are wanted, the first two at what
 /// comes behind the root until the third one is at a node; or lets go after a while.
 #[derive(Drop)]
 struct Watch {

@@ -1,7 +1,7 @@
 //! What tests alone show of the jobs: that whole runs over folders and sinks in memory succeed with ample memory, and write
 //! what was worked by hand; how every other run ends; and that clients and workers of a run act beside each other.
 //!
-//! The tests of `moos_jobs` stand here, since a crate with tests of its own is proved once more with them. One module for each
+//! The tests of `moos_jobs` are here, since a crate with tests of its own is proved once more with them. One module for each
 //! subject: `words`, `scripts`, clients `beside` each other, `missions`, `behaviors`, `problems`, `shares` of two scripts with a
 //! bridge, simulated `vehicles`, `refusals` of what isn't good, and `devices` that fail. What they share is in `files` and `runs`.
 #![tactic(auto)]

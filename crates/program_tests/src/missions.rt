@@ -11,7 +11,7 @@ const HEAD: &str =
     %% reg MOOS_MANUAL_OVERRIDE * 0\n%% reg MOOS_MANUAL_OVERIDE * 0\n%% reg NAV_X * 0\n\
     %% reg NAV_Y * 0\n%% reg NAV_DEPTH * 0\n%% reg DEPLOY * 0\n";
 
-// What may follow: the client's post stands before the helm's first fetch, before its first post, and so on, or behind all.
+// What may follow: the client's post is before the helm's first fetch, before its first post, and so on, or behind all.
 const ENDS: [&str; 5] = [
     "%% entry 1 0 nav post 0 2\n0 DEPLOY nav \"true\"\n0 MOOS_MANUAL_OVERRIDE nav \"false\"\n\
         %% entry 2 0 pHelmIvP fetch\n%% mail 0 0 DEPLOY nav \"true\"\n\

@@ -1,4 +1,4 @@
-// Runs over folders and sinks in memory, where memory is left.
+// Runs over folders and sinks in memory, if memory is left.
 use moos_io::{Gate, MemFolder, MemSink, NoGate};
 use moos_jobs::{Status, Word, Words, run};
 use std::alloc::Global;
@@ -34,7 +34,7 @@ pub(crate) fn run_on<R: Threads + Wait + Sync + Abort>(
     run_under(rt, alloc, line, text, &NoGate)
 }
 
-// The same, where this gate is told of the calls of clients and workers.
+// The same, if this gate is told of the calls of clients and workers.
 pub(crate) fn run_under<R: Threads + Wait + Sync + Abort, G: Gate>(
     rt: &R,
     alloc: Global,
@@ -63,7 +63,7 @@ pub(crate) fn ends_so<R: Threads + Wait + Sync + Abort>(
     assert_eq!(rt; out.bytes(), written.as_bytes(), "{line:?}: {text}");
 }
 
-// How a run ends beside an empty script `s.txt`, where nothing is to be written.
+// How a run ends beside an empty script `s.txt`, if nothing is to be written.
 pub(crate) fn ends<R: Threads + Wait + Sync + Abort>(
     rt: &R,
     alloc: Global,

@@ -85,7 +85,7 @@ impl<'a> Sink for Counter<'a> {
 // Where the entries of the first report begin.
 const ENTRIES: [usize; 4] = [32, 70, 104, 145];
 
-// Sees at each call whether just what stands before its entry was taken.
+// Sees at each call whether just what is before its entry was taken.
 #[derive(Drop)]
 struct Between<'a> {
     taken: &'a AtomicUsize,

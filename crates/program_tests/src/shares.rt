@@ -90,7 +90,7 @@ fn nothing_is_carried(rt: HostRuntime) {
     );
 }
 
-// Where all files are empty there is no stamp, and a race has its last carrying alone.
+// If all files are empty there is no stamp, and a race has its last carrying alone.
 #[test]
 fn three_empty_files(rt: HostRuntime) {
     let line = ["share", "f.txt", "f.txt", "f.txt"];

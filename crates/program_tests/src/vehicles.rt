@@ -12,7 +12,7 @@ use std::thread::Threads;
 // The helm has the vehicle for a second, in which it ticks five times.
 const SECOND: &str = "0 t post DEPLOY=true # MOOS_MANUAL_OVERRIDE=false\n1 until\n";
 
-// A contact comes near and is clear again, while the ship lies still; a report of two fields says nothing.
+// A contact comes near and is clear again, while the vehicle lies still; a report of two fields says nothing.
 const FIVE_TURNS: &str = "0 r post NODE_REPORT=NAME=b,X=60,Y=0,SPD=1,HDG=90\n\
     0 r post NODE_REPORT=NAME=b,X=1\n\
     0.25 r post NODE_REPORT=NAME=b,X=50,Y=0,SPD=1,HDG=90\n\

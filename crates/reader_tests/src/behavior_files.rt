@@ -66,7 +66,7 @@ fn has_most(rt: &impl Abort, alloc: Global, times: u32, line: &[u8], more: &[(&[
     assert_eq!(rt; refusal(rt, alloc, Kind::Behaviors, &text), None);
 }
 
-// One more is refused where it is good, and for what is wrong with it where it isn't.
+// One more is refused if it is good, and for what is wrong with it if it isn't.
 #[test]
 fn most_conditions_and_flags(rt: HostRuntime) {
     has_most(&rt, rt.alloc(), 64, b"condition = X = ", CONDITIONS);
@@ -183,7 +183,7 @@ fn depth() -> Spec {
     }
 }
 
-// Parameters, their values, and the weight behind each where it is set.
+// Parameters, their values, and the weight behind each if it is set.
 const PARAMETERS: &[(&[u8], &[u8], Option<u32>)] = &[
     (b"pwt", b"7.9", Some(7_900)),
     (b"Max_Depth", b"4", Some(100_000)),

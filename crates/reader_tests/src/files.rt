@@ -144,7 +144,7 @@ pub(crate) fn joined(rt: &impl Abort, alloc: Global, pieces: &[&[u8]]) -> Vec<u8
     text
 }
 
-/// Appends a number between what stands before it and behind it.
+/// Appends a number between what is before it and behind it.
 pub(crate) fn append_number(
     rt: &impl Abort,
     text: &mut Vec<u8>,
@@ -156,7 +156,7 @@ pub(crate) fn append_number(
     append(rt, text, &[before, number.bytes(), behind]);
 }
 
-/// A beginning, then so many times what stands before a count, the count from 0 up, and what stands behind it.
+/// A beginning, then so many times what is before a count, the count from 0 up, and what follows it.
 pub(crate) fn counted(
     rt: &impl Abort,
     alloc: Global,

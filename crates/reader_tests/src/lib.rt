@@ -1,7 +1,7 @@
 //! What tests alone show of the readers and of what lies outside the program: that their calls succeed with ample memory, and
 //! give what was worked by hand.
 //!
-//! The tests of these crates stand here, since a crate with tests of its own is proved once more with them. One module for
+//! The tests of these crates are here, since a crate with tests of its own is proved once more with them. One module for
 //! each subject: `outside`, `texts`, `words` and `pairs`, `scripts`, `bridges`, `missions`, `mode_files` and `behavior_files`,
 //! `generated` missions, `vehicles`, `contact_files` with node reports, and `files`, which has what the kinds of files share.
 #![tactic(auto)]

@@ -1,4 +1,4 @@
-// Scripts and refusals worked by hand, and each limit with what stands just beyond it.
+// Scripts and refusals worked by hand, and each limit with what is just beyond it.
 use crate::files::{
     Kind, append, append_number, are_refused, counted, is_shown, joined, refusal, refused,
     stands_at,

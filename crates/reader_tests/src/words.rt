@@ -1,7 +1,7 @@
 // Words of a line.
 use moos_text::next_word;
 
-// Texts, and of each its first word and what stands behind it.
+// Texts, and of each its first word and what follows it.
 const WORDS: &[(&[u8], Option<(&[u8], &[u8])>)] = &[
     (b" \t0  pA\tfetch ", Some((b"0", b"  pA\tfetch "))),
     (b"\tpA \t", Some((b"pA", b" \t"))),

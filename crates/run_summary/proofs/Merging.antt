@@ -9,7 +9,7 @@ use Rattle.moos_client.specs.Calls.{entries_of}
 use Rattle.moos_post.specs.declared.entry.Entry.{Entry}
 use Rattle.moos_post.specs.History.{History}
 use Rattle.moos_lawful.specs.Schedules.{rises}
-use Rattle.moos_play.specs.Lawful.{IsLawful, Steering, heard_of, helm_number, moment_of, opening, ticks, ticks_of, ticks_to, mailed_in}
+use Rattle.moos_play.specs.Lawful.{IsLawful, HelmSetup, heard_of, helm_number, moment_of, opening, ticks, ticks_of, ticks_to, mailed_in}
 use Rattle.moos_client.specs.Hearing.{heard_in}
 use Rattle.moos_client.proofs.Hearing.{heard_append}
 use Rattle.script_reader.specs.declared.script.Order.TheVariants.{Stamp}
@@ -20,7 +20,7 @@ use Rattle.run_summary.proofs.Lines.{first_least, head, head_among, line_with, o
 use Rattle.run_summary.proofs.Ticking.{fetches, heard_at_fetches, same_next}
 
 -- what stands behind the opening of a lawful history
-record Follows (script : Script) (helm : Option Steering) (names : List (List ℕ)) (rest : History) : Type 0 where
+record Follows (script : Script) (helm : Option HelmSetup) (names : List (List ℕ)) (rest : History) : Type 0 where
   steered : entries_of (helm_number script) rest ≡ ticks helm script.stop (heard_of names (helm_number script) (opening helm ++ rest))
   own : (client : ℕ) → client ≢ helm_number script → entries_of client rest ≡ entries_of client script.lines
 
@@ -28,7 +28,7 @@ entries_append : (client : ℕ) (some more : History) → entries_of client (som
 entries_append client some more = filter-append (λ entry. entry.client == client) some more
 
 -- behind what both have the next entry of the helm is one
-helm_next : (script : Script) (helm : Option Steering) (names : List (List ℕ)) (done next another : History) → Follows script helm names (done ++ next) → Follows script helm names (done ++ another)
+helm_next : (script : Script) (helm : Option HelmSetup) (names : List (List ℕ)) (done next another : History) → Follows script helm names (done ++ next) → Follows script helm names (done ++ another)
     → head (entries_of (helm_number script) next) ≡ head (entries_of (helm_number script) another)
 helm_next script None names done next another one two = nothing next one.steered ∙ sym (nothing another two.steered)
   where
@@ -69,7 +69,7 @@ helm_next script (Some helm) names done next another one two =
         )
 
 -- and that of any client
-next_same : (script : Script) (helm : Option Steering) (names : List (List ℕ)) (done next another : History) → Follows script helm names (done ++ next) → Follows script helm names (done ++ another)
+next_same : (script : Script) (helm : Option HelmSetup) (names : List (List ℕ)) (done next another : History) → Follows script helm names (done ++ next) → Follows script helm names (done ++ another)
     → (client : ℕ) → head (entries_of client next) ≡ head (entries_of client another)
 next_same script helm names done next another one two client =
     elim (cases_eq client (helm_number script)) [
@@ -81,7 +81,7 @@ next_same script helm names done next another one two client =
     ]
 
 -- an entry of a client is one of the lines
-is_line : (script : Script) (helm : Option Steering) (names : List (List ℕ)) (P : Entry → Type 0) (done : History) (entry : Entry) (later : History) → Follows script helm names (done ++ entry ∷ later)
+is_line : (script : Script) (helm : Option HelmSetup) (names : List (List ℕ)) (P : Entry → Type 0) (done : History) (entry : Entry) (later : History) → Follows script helm names (done ++ entry ∷ later)
     → entry.client ≢ helm_number script → All P script.lines → P entry
 is_line script helm names P done entry later follows other all =
     All-head P entry (entries_of entry.client later)
@@ -95,7 +95,7 @@ is_line script helm names P done entry later follows other all =
     behind (one ∷ front) more all = behind front more (All-tail P one (front ++ more) all)
 
 -- entries of two clients that come next in two such histories can't both be first
-not_both : (script : Script) (helm : Option Steering) (names : List (List ℕ)) (from to : ℕ) (done : History) (one other : Entry) (later behind : History) → rise_within from to script.lines ≡ true
+not_both : (script : Script) (helm : Option HelmSetup) (names : List (List ℕ)) (from to : ℕ) (done : History) (one other : Entry) (later behind : History) → rise_within from to script.lines ≡ true
     → Follows script helm names (done ++ one ∷ later) → Follows script helm names (done ++ other ∷ behind)
     → moment_of (helm_number script) one ≡ moment_of (helm_number script) other → (one.client ≡ other.client → ⊥) → ⊥
 not_both script helm names from to done one other later behind rise follows follows' same apart =
@@ -121,7 +121,7 @@ not_both script helm names from to done one other later behind rise follows foll
     by false false mine yours same = clients (omega (arith, same)) (eqb-false one.client (helm_number script) mine) (eqb-false other.client (helm_number script) yours)
 
 -- two first entries are one
-first_same : (script : Script) (helm : Option Steering) (names : List (List ℕ)) (from to last : ℕ) (done : History) (one other : Entry) (later behind : History) → rise_within from to script.lines ≡ true
+first_same : (script : Script) (helm : Option HelmSetup) (names : List (List ℕ)) (from to last : ℕ) (done : History) (one other : Entry) (later behind : History) → rise_within from to script.lines ≡ true
     → Follows script helm names (done ++ one ∷ later) → Follows script helm names (done ++ other ∷ behind) → rises last (map (moment_of (helm_number script)) (one ∷ later)) ≡ true
     → rises last (map (moment_of (helm_number script)) (other ∷ behind)) ≡ true → other ≡ one
 first_same script helm names from to last done one other later behind rise follows follows' order order' =
@@ -148,7 +148,7 @@ first_same script helm names from to last done one other later behind rise follo
     both m n le ge = omega arith
 
 -- so they are one from any common front on
-follow : (script : Script) (helm : Option Steering) (names : List (List ℕ)) (from to last : ℕ) (done rest other : History) → rise_within from to script.lines ≡ true
+follow : (script : Script) (helm : Option HelmSetup) (names : List (List ℕ)) (from to last : ℕ) (done rest other : History) → rise_within from to script.lines ≡ true
     → Follows script helm names (done ++ rest) → Follows script helm names (done ++ other) → rises last (map (moment_of (helm_number script)) rest) ≡ true
     → rises last (map (moment_of (helm_number script)) other) ≡ true → other ≡ rest
 follow script helm names from to last done [] [] rise follows follows' order order' = refl

@@ -12,7 +12,7 @@ use Rattle.moos_post.specs.declared.entry.Call.TheVariants.{Post as Posts, Fetch
 use Rattle.moos_post.specs.declared.entry.Entry.{Entry}
 use Rattle.moos_post.specs.Delivery.{is_fetch}
 use Rattle.moos_post.specs.History.{History}
-use Rattle.moos_play.specs.Lawful.{Steering, tick_entries, ticks_of, mailed_in}
+use Rattle.moos_play.specs.Lawful.{HelmSetup, tick_entries, ticks_of, mailed_in}
 use Rattle.moos_client.specs.Hearing.{heard_in}
 use Rattle.run_summary.proofs.Lines.{head}
 
@@ -37,20 +37,20 @@ heard_at_fetches names client past (entry ∷ entries) = at (entry.client == cli
     at true false is same = same ∙ sym (zero-add (fetches (entries_of client entries))) ∙ ap (λ b. cond b 1 0 + fetches (entries_of client entries)) (sym is)
     at false fetch is same = same
 
-length_ticks : (helm : Steering) (heard : List Tick) (n : ℕ) → length (ticks_of helm heard n) ≡ 2 * n
+length_ticks : (helm : HelmSetup) (heard : List Tick) (n : ℕ) → length (ticks_of helm heard n) ≡ 2 * n
 length_ticks helm heard zero = refl
 length_ticks helm heard (suc n) = length-append (ticks_of helm heard n) (tick_entries helm heard n) ∙ omega (arith, length_ticks helm heard n)
 
-fetches_ticks : (helm : Steering) (heard : List Tick) (n : ℕ) → fetches (ticks_of helm heard n) ≡ n
+fetches_ticks : (helm : HelmSetup) (heard : List Tick) (n : ℕ) → fetches (ticks_of helm heard n) ≡ n
 fetches_ticks helm heard zero = refl
 fetches_ticks helm heard (suc n) = fetches_append (ticks_of helm heard n) (tick_entries helm heard n) ∙ omega (arith, fetches_ticks helm heard n)
 
 -- the ticks before one, it, and what stands behind it
-record Parted (helm : Steering) (heard : List Tick) (i n : ℕ) : Type 0 where
+record Parted (helm : HelmSetup) (heard : List Tick) (i n : ℕ) : Type 0 where
   later : List Entry
   is : ticks_of helm heard n ≡ ticks_of helm heard i ++ (tick_entries helm heard i ++ later)
 
-parted : (helm : Steering) (heard : List Tick) (i n : ℕ) → i < n → Parted helm heard i n
+parted : (helm : HelmSetup) (heard : List Tick) (i n : ℕ) → i < n → Parted helm heard i n
 parted helm heard i zero within = absurd (omega arith)
 parted helm heard i (suc n) within =
     elim (cases_eq i n) [
@@ -79,19 +79,19 @@ cut (entry ∷ front) (one ∷ other) more later same is =
     (ap (λ entry. entry ∷ front) first ∙ ap (λ front. one ∷ front) both.0, both.1)
 
 -- behind all ticks nothing comes
-none_next : (helm : Steering) (heard : List Tick) (n : ℕ) (made next : List Entry) → n ≤ length made / 2 → made ++ next ≡ ticks_of helm heard n → head next ≡ None
+none_next : (helm : HelmSetup) (heard : List Tick) (n : ℕ) (made next : List Entry) → n ≤ length made / 2 → made ++ next ≡ ticks_of helm heard n → head next ≡ None
 none_next helm heard n made [] all is = refl
 none_next helm heard n made (entry ∷ next) all is = absurd (omega (arith, all, length-append made (entry ∷ next), ap length is, length_ticks helm heard n))
 
 -- behind whole ticks the next fetch comes
-fetch_next : (helm : Steering) (heard : List Tick) (i n : ℕ) (made next : List Entry) → i < n → length made ≡ 2 * i → made ++ next ≡ ticks_of helm heard n
+fetch_next : (helm : HelmSetup) (heard : List Tick) (i n : ℕ) (made next : List Entry) → i < n → length made ≡ 2 * i → made ++ next ≡ ticks_of helm heard n
     → head next ≡ Some (entry_of helm.client (i * helm.period) Fetch)
 fetch_next helm heard i n made next within many is =
     let at : Parted helm heard i n = parted helm heard i n within in
     ap head (cut made (ticks_of helm heard i) next (tick_entries helm heard i ++ at.later) (many ∙ sym (length_ticks helm heard i)) (is ∙ at.is)).1
 
 -- behind a fetch comes what the iteration posts, which rests on what was heard by then
-post_next : (helm : Steering) (heard more : List Tick) (i n : ℕ) (made next : List Entry) → i < n → length made ≡ 2 * i + 1 → fetches made ≤ length heard
+post_next : (helm : HelmSetup) (heard more : List Tick) (i n : ℕ) (made next : List Entry) → i < n → length made ≡ 2 * i + 1 → fetches made ≤ length heard
     → made ++ next ≡ ticks_of helm (heard ++ more) n → head next ≡ Some (entry_of helm.client (i * helm.period) (Posts (iteration_at helm.plan heard i).posts))
 post_next helm heard more i n made next within many fetched is =
     ap head both.1 ∙ ap (λ (iteration : Iteration). Some (entry_of helm.client (i * helm.period) (Posts iteration.posts))) (iteration_same helm.plan heard more i early)
@@ -114,7 +114,7 @@ post_next helm heard more i n made next within many fetched is =
     early = omega (arith, fetched, ap fetches both.0, fetches_append (ticks_of helm (heard ++ more) i) (fetch ∷ []), fetches_ticks helm (heard ++ more) i)
 
 -- Whatever is heard later, the helm's next entry is the same.
-pub same_next : (helm : Steering) (heard more other : List Tick) (n : ℕ) (made next another : List Entry) → fetches made ≤ length heard → made ++ next ≡ ticks_of helm (heard ++ more) n
+pub same_next : (helm : HelmSetup) (heard more other : List Tick) (n : ℕ) (made next another : List Entry) → fetches made ≤ length heard → made ++ next ≡ ticks_of helm (heard ++ more) n
     → made ++ another ≡ ticks_of helm (heard ++ other) n → head next ≡ head another
 same_next helm heard more other n made next another fetched is was =
     elim (cases_lt (length made / 2) n) [

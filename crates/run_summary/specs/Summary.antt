@@ -13,7 +13,7 @@ abbrev pub letters_given : List (List ℕ) → History → ℕ → ℕ
 letters_given names history zero = 0
 letters_given names history (suc k) = letters_given names history k + length (mail_at names history k)
 
--- the sum that was decided for, in thousandths, 0 where nothing was
+-- the sum that was decided for, in thousandths, 0 if nothing was
 abbrev pub decided_sum : Option Decision → ℕ
 decided_sum None = 0
 decided_sum (Some decision) = decision.claim.sum

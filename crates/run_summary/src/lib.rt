@@ -3,7 +3,7 @@
 //! The layer above relies on this: `summary` writes what `summary_text` of specs/ says of the database and the iterations, whole
 //! or a front of it; and by `sole_history_law` a script whose stamps rise leaves just one history that the counts may be of.
 //!
-//! Read `counts`, then `writing`; `law` stands apart.
+//! Read `counts`, then `writing`; `law` is apart.
 #![tactic(auto)]
 
 mod counts;

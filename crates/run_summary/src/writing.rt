@@ -11,7 +11,7 @@ use moos_db::Db;
 use moos_io::{Buffer, Failed, Sink};
 use moos_text::print_decimals;
 
-/// Writes the summary of the run of the mission with this number. Where the sink fails, it took a front of it, not the whole.
+/// Writes the summary of the run of the mission with this number. If the sink fails, it took a front of it, not the whole.
 pub fn summary<K: Sink>(
     number: u64,
     db: &Db,

@@ -25,7 +25,7 @@ with_pairs known pairs = fold (λ vars pair. with_variable vars pair.var) known 
 abbrev pub with_call_variables : List (List ℕ) → Call → List (List ℕ)
 with_call_variables known call = with_pairs known (pairs_in call)
 
--- the registrations of each client, with one more of this client where the call is one
+-- the registrations of each client, with one more of this client if the call is one
 abbrev pub with_made : List ℕ → ℕ → Call → List ℕ
 with_made made client call = if is_register call then slice_set made client (slice_index made client + 1) else made
 

@@ -22,7 +22,7 @@ use Rattle.moos_text.specs.Pairs.{pair_of, parts_of}
 use Rattle.moos_text.specs.Refusals.{and_then}
 use Rattle.script_reader.specs.declared.script.Script.{Script}
 
--- what stands in front of this word, which must be missing
+-- what is in front of this word, which must be missing
 abbrev pub with_none_behind : {A : Type 0} → A → List ℕ → Result A Cause
 with_none_behind value [] = Ok value
 with_none_behind value (byte ∷ bytes) = Err S3
@@ -32,7 +32,7 @@ abbrev pub milliseconds_of : ℤ → Option ℕ
 milliseconds_of (pos n) = if nat_le n 1000000000 then Some n else None
 milliseconds_of (negsuc n) = None
 
--- a stamp or an interval, where the word is such a number
+-- a stamp or an interval, if the word is such a number
 abbrev pub time_of : List ℕ → Option ℕ
 time_of word = option_and_then milliseconds_of (milli_of word)
 
@@ -40,12 +40,12 @@ time_of word = option_and_then milliseconds_of (milli_of word)
 abbrev pub pattern_of : List ℕ → Option (List ℕ)
 pattern_of word = if is_pattern word then Some word else None
 
--- the interval is 0 where its word is missing
+-- the interval is 0 if its word is missing
 abbrev pub interval_of : List ℕ → Option ℕ
 interval_of [] = Some 0
 interval_of (byte ∷ bytes) = time_of (byte ∷ bytes)
 
--- the source pattern is `*` where its word is missing
+-- the source pattern is `*` if its word is missing
 abbrev pub source_of : List ℕ → Option (List ℕ)
 source_of [] = Some (codes "*")
 source_of (byte ∷ bytes) = pattern_of (byte ∷ bytes)
@@ -61,7 +61,7 @@ reg_of (Some var) (Some interval) (Some source) = Ok (record { var = var; source
 abbrev pub register_one : ℕ → Reg → Result Call Cause
 register_one made reg = if nat_le 256 made then Err (S8 Registrations) else Ok (Register (reg ∷ []))
 
--- the word at this place, counted from 0, empty where there is none
+-- the word at this place, counted from 0, empty if there is none
 abbrev pub word_at : ℕ → List (List ℕ) → List ℕ
 word_at place words = slice_index_or words place []
 
@@ -94,7 +94,7 @@ abbrev pub with_cause : Result Pair PairFault → Result Pair Cause
 with_cause (Ok pair) = Ok pair
 with_cause (Err fault) = Err (cause_of fault)
 
--- the variables, and this one where it isn't among them
+-- the variables, and this one if it isn't among them
 abbrev pub with_variable : List (List ℕ) → List ℕ → List (List ℕ)
 with_variable known var = if list_any (bytes_eq var) known then known else known ++ var ∷ []
 
@@ -111,7 +111,7 @@ pub record Posting : Type 0 where
 abbrev pub posting : List (List ℕ) → List Pair → Posting
 posting variables pairs = record { variables = variables; pairs = pairs }
 
--- a variable more, which may be one too many where it is new
+-- a variable more, which may be one too many if it is new
 abbrev pub with_known : List (List ℕ) → List ℕ → Result (List (List ℕ)) Cause
 with_known known var =
     if not (list_any (bytes_eq var) known) && nat_le 4096 (length known) then Err (S8 Variables) else Ok (with_variable known var)
@@ -122,7 +122,7 @@ with_pair post pair =
     if nat_le 64 (length post.pairs) then Err (S8 InBatch)
     else and_then (λ variables. Ok (posting variables (post.pairs ++ pair ∷ []))) (with_known post.variables pair.var)
 
--- what stands between two `#`, or an end of the text, is a pair
+-- what is between two `#`, or an end of the text, is a pair
 abbrev pub with_part : Posting → List ℕ → Result Posting Cause
 with_part post part = and_then (with_pair post) (with_cause (pair_of part))
 
@@ -146,7 +146,7 @@ is_register Fetch = false
 abbrev pub registrations_of : ℕ → List Entry → ℕ
 registrations_of client lines = count_by (λ line. line.client == client && is_register line.call) lines
 
--- what the words after the client ask for, where the client has made so many registrations and these variables are posted
+-- what the words after the client ask for, if the client has made so many registrations and these variables are posted
 abbrev pub call_of : ℕ → List (List ℕ) → List ℕ → Result Call Cause
 call_of made known text =
     let verb = first_word text in
@@ -157,11 +157,11 @@ call_of made known text =
     else if bytes_eq verb (codes "fetch") then with_none_behind Fetch (first_word rest)
     else Err S3
 
--- a client's number is its place among the names, which it joins where it is new
+-- a client's number is its place among the names, which it joins if it is new
 abbrev pub client_number : List (List ℕ) → List ℕ → ℕ
 client_number names client = position_or_len (λ name. bytes_eq name client) names
 
--- the names with a client, which joins where it is new
+-- the names with a client, which joins if it is new
 abbrev pub with_client : List (List ℕ) → List ℕ → List (List ℕ)
 with_client names client = if nat_lt (client_number names client) (length names) then names else names ++ client ∷ []
 
@@ -186,7 +186,7 @@ abbrev pub after_client : Script → ℕ → List ℕ → List ℕ → ℕ → R
 after_client script stamp name text number =
     and_then (λ call. Ok (with_client_call script stamp name call)) (call_of (registrations_of number script.lines) (variables_of script.lines) text)
 
--- what stands behind a good stamp: `until`, which only carries the stamp, or a client and its call
+-- what follows a good stamp: `until`, which only carries the stamp, or a client and its call
 abbrev pub after_stamp : Script → List ℕ → ℕ → Result Script Cause
 after_stamp script text stamp =
     let word = first_word text in
@@ -224,7 +224,7 @@ abbrev pub after_line : Progress → List ℕ → List ℕ → Result Progress C
 after_line read content [] = Ok read
 after_line read content (byte ∷ bytes) = after_filled read content
 
--- what stands behind a good line, or the refusal of this line
+-- what follows a good line, or the refusal of this line
 abbrev pub go_on : ℕ → (Progress → Result Progress ReadFault) → Result Progress Cause → Result Progress ReadFault
 go_on number rest (Err cause) = Err (At number cause)
 go_on number rest (Ok read) = rest read

@@ -5,7 +5,7 @@ ghost use Rattle.moos_text.specs.Refusals.{IsLineFault};
 ghost use Rattle.moos_text.specs.declared.pair.PairFault.TheVariants.{NoMemory};
 ghost use Rattle.script_reader.specs.Script.{posting, with_pair, with_part, with_parts, with_cause, cause_of};
 
-use crate::variables::Variables;
+use crate::variables::PostedVariables;
 use moos_post::{Batch, NoMemory, Pair};
 use moos_text::{Cause, Limit, LineFault, PairFault, next_part, read_pair};
 use std::alloc::Global;
@@ -14,7 +14,11 @@ use std::alloc::Global;
 const MAX_PAIRS: usize = 64;
 
 /// The pairs of a post, in which `variables` gains its variables; or the first refusal of them.
-pub fn read_batch(alloc: Global, variables: &mut Variables, text: &[u8]) -> Result<Batch, LineFault>
+pub fn read_batch(
+    alloc: Global,
+    variables: &mut PostedVariables,
+    text: &[u8],
+) -> Result<Batch, LineFault>
     ensures read { IfOk result (λ pairs. with_parts (posting variables.old []) (parts_of text.now) ≡ Ok (posting variables.new pairs)) }
     ensures refused { IfErr result (λ fault. IsLineFault fault (with_parts (posting variables.old []) (parts_of text.now))) }
 {
@@ -35,7 +39,7 @@ pub fn read_batch(alloc: Global, variables: &mut Variables, text: &[u8]) -> Resu
 
 fn add_part(
     alloc: Global,
-    variables: &mut Variables,
+    variables: &mut PostedVariables,
     batch: &mut Batch,
     part: &[u8],
 ) -> Result<(), LineFault>
@@ -69,7 +73,7 @@ fn cause_of(fault: PairFault) -> Cause
 
 fn add_pair(
     alloc: Global,
-    variables: &mut Variables,
+    variables: &mut PostedVariables,
     batch: &mut Batch,
     pair: Pair,
 ) -> Result<(), LineFault>

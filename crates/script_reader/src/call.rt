@@ -6,10 +6,10 @@ ghost use Rattle.script_reader.specs.Script.{reg_of, register_one, register_of, 
 ghost use Rattle.script_reader.specs.Counts.{with_call_variables, pairs_in};
 
 use crate::batch::read_batch;
-use crate::variables::Variables;
-use crate::word::{interval_of, pattern_of, source_of, split_word, with_none_behind};
+use crate::variables::PostedVariables;
+use crate::word::{interval_of, pattern_of, source_of, with_none_behind};
 use moos_post::{Call, Pattern, Reg, Regs};
-use moos_text::{Cause, Limit, LineFault};
+use moos_text::{Cause, Limit, LineFault, split_word};
 use std::alloc::Global;
 
 // The most registrations of a client.
@@ -19,7 +19,7 @@ const MAX_REGISTRATIONS: u32 = 256;
 pub fn call_of(
     alloc: Global,
     made: u32,
-    variables: &mut Variables,
+    variables: &mut PostedVariables,
     text: &[u8],
 ) -> Result<Call, LineFault>
     ensures call { IfOk result (λ call. call_of made variables.old text.now ≡ Ok call) }
@@ -116,7 +116,7 @@ fn withdrawal_of(var: Option<Pattern>, source: Option<Pattern>) -> Result<Call, 
 }
 
 // PAIR [# PAIR]
-fn post_of(alloc: Global, variables: &mut Variables, text: &[u8]) -> Result<Call, LineFault>
+fn post_of(alloc: Global, variables: &mut PostedVariables, text: &[u8]) -> Result<Call, LineFault>
     ensures call { IfOk result (λ call. post_of_text variables.old text.now ≡ Ok call) }
     ensures refused { IfErr result (λ fault. IsLineFault fault (post_of_text variables.old text.now)) }
     ensures variables { IfOk result (λ call. variables.new ≡ with_call_variables variables.old call) }

@@ -2,11 +2,10 @@
 ghost use Rattle.std.specs.Prelude.{◌≡◌, ◌<◌, ◌^◌, length};
 ghost use Rattle.script_reader.specs.Named.{is_of_client, has_name, line_of_client};
 
-use crate::word::split_word;
 use moos_post::Names;
-use moos_text::next_line;
+use moos_text::{next_line, split_word};
 
-/// The number of the first line, counted from 1, whose client is one of these names; None exactly where no line is. It
+/// The number of the first line, counted from 1, whose client is one of these names; None exactly if no line is. It
 /// looks at each line's second word alone, which in a script that `read_script` takes is the client or `until`.
 pub fn line_of_client(bytes: &[u8], names: &Names) -> Option<u32>
     requires { length bytes.now < 2 ^ 32 }

@@ -33,14 +33,14 @@ impl Clients {
         }
     }
 
-    /// The number of the client of this name, its place among them, where it is one of them.
+    /// The number of the client of this name, its place among them, if it is one of them.
     pub fn number_of(&self, name: &[u8]) -> Option<usize>
         ensures { result ≡ position (λ client. bytes_eq client name.now) self.now }
     {
         self.set.get_index_of(name)
     }
 
-    /// The client of this name joins them where it is new.
+    /// The client of this name joins them if it is new.
     pub fn join(&mut self, alloc: Global, name: &[u8]) -> Result<(), NoMemory>
         ensures { OnOk result (self.new ≡ with_client self.old name.now) }
     {

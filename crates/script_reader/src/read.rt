@@ -5,7 +5,7 @@ ghost use Rattle.script_reader.specs.Script.{nothing_read, progress, script_of};
 ghost use Rattle.script_reader.specs.Counts.{AreCounts};
 ghost use Rattle.script_reader.specs.Validity.{IsValid};
 
-use crate::reading::Reading;
+use crate::reading::ScriptReading;
 use crate::script::Script;
 use moos_text::{ReadFault, next_line};
 use std::alloc::Global;
@@ -17,13 +17,13 @@ pub fn read_script(alloc: Global, bytes: &[u8]) -> Result<Script, ReadFault>
     ensures refused { IfErr result (λ fault. IsFirst fault (script_of bytes.now)) }
     ensures valid { IfOk result IsValid }
 {
-    let mut reading = Reading::new(alloc);
+    let mut reading = ScriptReading::new(alloc);
     read_lines(alloc, bytes, &mut reading)?;
     Ok(reading.script)
 }
 
 // Reads all lines, of which none was read yet.
-fn read_lines(alloc: Global, bytes: &[u8], reading: &mut Reading) -> Result<(), ReadFault>
+fn read_lines(alloc: Global, bytes: &[u8], reading: &mut ScriptReading) -> Result<(), ReadFault>
     requires short { length bytes.now < 2 ^ 32 }
     requires new { progress reading.old.script reading.old.filled ≡ nothing_read }
     requires counted { AreCounts reading.old.script reading.old.made reading.old.variables reading.old.clients }

@@ -8,10 +8,10 @@ ghost use Rattle.script_reader.specs.Counts.{AreCounts, with_made, with_name, wi
 use crate::call::call_of;
 use crate::clients::Clients;
 use crate::script::{Lines, Script};
-use crate::variables::Variables;
-use crate::word::{split_word, time_of, with_none_behind};
+use crate::variables::PostedVariables;
+use crate::word::{time_of, with_none_behind};
 use moos_post::{Call, Entry, Name, NameFault, Names, NoMemory};
-use moos_text::{Cause, Limit, LineFault};
+use moos_text::{Cause, Limit, LineFault, split_word};
 use std::alloc::Global;
 
 // The most lines that aren't blank, and the most clients.
@@ -22,21 +22,21 @@ const MAX_CLIENTS: usize = 64;
 /// The script so far, how many of its lines weren't blank, how many registrations each client has made, which variables
 /// are posted, and the clients once more, to look them up by their names.
 #[derive(Drop)]
-pub struct Reading {
+pub struct ScriptReading {
     pub script: Script,
     pub filled: usize,
     pub made: [u32; 64],
-    pub variables: Variables,
+    pub variables: PostedVariables,
     pub clients: Clients,
 }
 
-impl Reading {
+impl ScriptReading {
     /// Before the first line.
-    pub fn new(alloc: Global) -> Reading
+    pub fn new(alloc: Global) -> ScriptReading
         ensures read { progress result.script result.filled ≡ nothing_read }
         ensures counted { AreCounts result.script result.made result.variables result.clients }
     {
-        Reading {
+        ScriptReading {
             script: Script {
                 names: Names::new(alloc),
                 lines: Lines::new(alloc),
@@ -44,7 +44,7 @@ impl Reading {
             },
             filled: 0,
             made: no_registrations(),
-            variables: Variables::new(alloc),
+            variables: PostedVariables::new(alloc),
             clients: Clients::new(alloc),
         }
     }
@@ -108,7 +108,7 @@ impl Reading {
         self.read_behind(alloc, rest, stamp)
     }
 
-    // Reads what stands behind a good stamp.
+    // Reads what follows a good stamp.
     fn read_behind(&mut self, alloc: Global, text: &[u8], stamp: u64) -> Result<(), LineFault>
         requires { AreCounts self.old.script self.old.made self.old.variables self.old.clients }
         ensures read { IfOk result (λ _. after_stamp self.old.script text.now stamp ≡ Ok self.new.script) }
@@ -127,7 +127,7 @@ impl Reading {
         self.read_call(alloc, rest, stamp, number)
     }
 
-    // The number of the client of this name, which joins the names where it is new. One that is among them was judged
+    // The number of the client of this name, which joins the names if it is new. One that is among them was judged
     // when it joined.
     fn client_of(&mut self, alloc: Global, name: &[u8]) -> Result<usize, LineFault>
         requires { AreCounts self.old.script self.old.made self.old.variables self.old.clients }
@@ -190,7 +190,7 @@ fn no_registrations() -> [u32; 64]
     [0; 64]
 }
 
-// Counts the call where it is a registration of the client of this number.
+// Counts the call if it is a registration of the client of this number.
 fn count(made: &mut [u32; 64], number: usize, call: &Call)
     requires among { number < 64 }
     requires room { IsTrue (is_register call.now) → slice_index made.old number < 256 }
@@ -213,7 +213,7 @@ fn not_before(last: u64, stamp: u64) -> Result<u64, Cause>
     }
 }
 
-// The name of a client that isn't among these, where it may join them.
+// The name of a client that isn't among these, if it may join them.
 fn new_client(alloc: Global, names: &Names, name: &[u8]) -> Result<Name, LineFault>
     requires new { client_number names.now name.now ≡ length names.now }
     ensures name { IfOk result (λ client. client ≡ name.now) }

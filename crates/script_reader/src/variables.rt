@@ -15,11 +15,11 @@ const MAX_VARIABLES: usize = 4096;
 
 /// The variables that are posted so far, in the order of their first posts. Contracts see the list.
 #[derive(Drop)]
-pub struct Variables {
+pub struct PostedVariables {
     set: IndexSet<Name>,
 }
 
-impl Model for Variables {
+impl Model for PostedVariables {
     ghost use Rattle.std.specs.Prelude.{List, ℕ};
 
     ghost Value = { List (List ℕ) };
@@ -27,12 +27,12 @@ impl Model for Variables {
     ghost view = { λ v. v.set.keys };
 }
 
-impl Variables {
+impl PostedVariables {
     /// No variables.
-    pub fn new(alloc: Global) -> Variables
+    pub fn new(alloc: Global) -> PostedVariables
         ensures { result ≡ [] }
     {
-        Variables {
+        PostedVariables {
             set: IndexSet::new(alloc),
         }
     }
@@ -44,7 +44,7 @@ impl Variables {
         self.set.len()
     }
 
-    /// The one of this name, where it is among them.
+    /// The one of this name, if it is among them.
     pub fn get(&self, name: &Name) -> Option<&Name>
         ensures found { is_some result ≡ list_any (bytes_eq name.now) self.now }
         ensures same { IfSome result (λ known. known.now ≡ name.now) }
@@ -52,7 +52,7 @@ impl Variables {
         self.set.get(name)
     }
 
-    /// Adds this one where it isn't among them, or refuses it where it would be one too many. Gives an equal name, which
+    /// Adds this one if it isn't among them, or refuses it if it would be one too many. Gives an equal name, which
     /// shares its bytes with all others that were given for it: a script may name a variable a million times.
     pub fn add(&mut self, alloc: Global, name: Name) -> Result<Name, LineFault>
         ensures read { IfOk result (λ _. with_known self.old name ≡ Ok self.new) }

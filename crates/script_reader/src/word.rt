@@ -1,25 +1,13 @@
 // The words of a line that stand for themselves: times and patterns.
 ghost use Rattle.std.specs.Prelude.{◌≡◌, IfOk, ◌<◌};
-ghost use Rattle.moos_text.specs.Lines.{first_word, behind_word};
 ghost use Rattle.script_reader.specs.Script.{milliseconds_of, time_of, pattern_of, interval_of, source_of, with_none_behind};
 
 use moos_post::{Milli, NoMemory, Pattern, PatternFault};
-use moos_text::{Cause, next_word, read_milli};
+use moos_text::{Cause, read_milli};
 use std::alloc::{AllocError, Global};
 
 // The greatest stamp and the greatest interval, in milliseconds.
 const LAST_TIME: i64 = 1_000_000_000;
-
-/// The first word, empty where there is none, and what stands behind it.
-pub fn split_word(text: &[u8]) -> (&[u8], &[u8])
-    ensures first { result.0.now ≡ first_word text.now }
-    ensures behind { result.1.now ≡ behind_word text.now }
-{
-    match next_word(text) {
-        Some(split) => split,
-        None => (b"".as_slice(), b"".as_slice()),
-    }
-}
 
 /// The value in front of this word, which must be missing.
 pub fn with_none_behind<T: Drop>(value: T, word: &[u8]) -> Result<T, Cause>
@@ -31,7 +19,7 @@ pub fn with_none_behind<T: Drop>(value: T, word: &[u8]) -> Result<T, Cause>
     }
 }
 
-/// A stamp or an interval in milliseconds: None exactly where the word is no number of seconds from 0 to 1,000,000.
+/// A stamp or an interval in milliseconds: None exactly if the word is no number of seconds from 0 to 1,000,000.
 pub fn time_of(word: &[u8]) -> Option<u64>
     ensures { result ≡ time_of word.now }
 {
@@ -52,7 +40,7 @@ fn milliseconds_of(number: Milli) -> Option<u64>
     }
 }
 
-/// The interval in milliseconds, 0 where the word is missing.
+/// The interval in milliseconds, 0 if the word is missing.
 pub fn interval_of(word: &[u8]) -> Option<u64>
     ensures { result ≡ interval_of word.now }
 {
@@ -62,7 +50,7 @@ pub fn interval_of(word: &[u8]) -> Option<u64>
     }
 }
 
-/// The pattern that the word is; None exactly where it is none.
+/// The pattern that the word is; None exactly if it is none.
 pub fn pattern_of(alloc: Global, word: &[u8]) -> Result<Option<Pattern>, NoMemory>
     ensures { IfOk result (λ pattern. pattern ≡ pattern_of word.now) }
 {
@@ -73,7 +61,7 @@ pub fn pattern_of(alloc: Global, word: &[u8]) -> Result<Option<Pattern>, NoMemor
     }
 }
 
-/// The pattern of sources, `*` where the word is missing.
+/// The pattern of sources, `*` if the word is missing.
 pub fn source_of(alloc: Global, word: &[u8]) -> Result<Option<Pattern>, NoMemory>
     ensures { IfOk result (λ pattern. pattern ≡ source_of word.now) }
 {

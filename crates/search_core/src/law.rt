@@ -7,7 +7,7 @@ ghost use Rattle.search_core.specs.Places.{IsFinished, IsIn, IsOver, IsSound, no
 
 /// What holds of every interleaving of the steps that workers make at one word and at their deques, whatever their number:
 /// each step keeps a core sound, so every list of steps from the start leaves one that is sound; no step loses a node of a
-/// deque, a frame or a done list; and where no node is left in a deque or a hand, each that was there at any time is in
+/// deque, a frame or a done list; and if no node is left in a deque or a hand, each that was there at any time is in
 /// exactly one worker's done list, and the greatest own key is that of the best point. It does nothing.
 pub fn core_law()
     ensures kept { (problem : WeightedSum) (step : Step) (core core' : Core) → IsProblem problem → IsSound problem core → Stepped problem step core core' → IsSound problem core' }

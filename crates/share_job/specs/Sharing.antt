@@ -65,7 +65,7 @@ abbrev pub second_turn : Order → Script → List ℕ → List ℕ → List (Li
 second_turn order first second bridge [] = Wanted SecondFile second
 second_turn order first second bridge (bytes ∷ more) = turn_behind SecondFile (λ script. bridge_turn order first script bridge more) (community_of bytes)
 
--- Where the job stands that names these files and this order, by the bytes of the files that were loaded so far, in order: the
+-- Where the job is that names these files and this order, by the bytes of the files that were loaded so far, in order: the
 -- first script, the second one, the bridge.
 abbrev pub share_turn : List ℕ → List ℕ → List ℕ → Order → List (List ℕ) → FileTurn ShareTask
 share_turn first second bridge order [] = Wanted ScriptFile first

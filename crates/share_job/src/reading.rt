@@ -14,7 +14,7 @@ use script_reader::{Script, client_law, line_of_client, read_script};
 use std::alloc::Global;
 
 /// Reads a script of which no line is of a client with the bridge's name: the script, or its first refusal. Its lines are looked
-/// through for such a one only where the script has that client.
+/// through for such a one only if the script has that client.
 pub(crate) fn read_community(alloc: Global, bytes: &[u8]) -> Result<Script, ReadFault>
     requires { length bytes.now < 2 ^ 32 }
     ensures read { IfOk result (λ script. community_of bytes.now ≡ Ok script) }

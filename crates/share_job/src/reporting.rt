@@ -10,7 +10,7 @@ use moos_io::{Failed, Sink};
 use moos_report::{no_modes, report_keeping};
 use std::alloc::Global;
 
-/// Writes the report of the first community, and then that of the second. Where the sink fails, it took a front of both.
+/// Writes the report of the first community, and then that of the second. If the sink fails, it took a front of both.
 pub(crate) fn report_both<K: Sink>(
     alloc: Global,
     shared: &Shared,

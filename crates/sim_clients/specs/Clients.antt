@@ -15,7 +15,7 @@ use Rattle.sim_vehicle.specs.declared.settings.CraftSettings.{CraftSettings}
 use Rattle.sim_vehicle.specs.Motion.{hull_after, start_hull}
 use Rattle.sim_vehicle.specs.Steering.{drive_of, fresh_rig, heading_error, rig_after, RigState}
 
--- the number of a variable by these mails: its latest value, where that is a number
+-- the number of a variable by these mails: its latest value, if that is a number
 abbrev pub number_by : List (List Pair) → List ℕ → Option ℤ
 number_by mails var = latest_number (latest_of (flat_map (λ said. said) mails)) var
 
@@ -49,7 +49,7 @@ hull_by craft period mails = hull_after_turns craft period mails (length mails)
 
 -- ---- pBasicContactMgr
 
--- the last of these batches, an empty one where there is none
+-- the last of these batches, an empty one if there is none
 abbrev pub last_batch : List (List Pair) → List Pair
 last_batch [] = []
 last_batch (batch ∷ []) = batch

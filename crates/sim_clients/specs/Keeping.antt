@@ -17,7 +17,7 @@ use Rattle.sim_vehicle.specs.Motion.{IsHull}
 abbrev pub pairs_in_mail : List Letter → List Pair
 pairs_in_mail mail = map (λ letter. pair_posted letter.post) mail
 
--- the number of a variable once a pair was heard, where it was another one before
+-- the number of a variable once a pair was heard, if it was another one before
 abbrev pub number_with : List ℕ → Option ℤ → Pair → Option ℤ
 number_with var before pair = if bytes_eq var pair.var then as_number pair.value else before
 

@@ -7,7 +7,7 @@ ghost use Rattle.sim_clients.specs.Keeping.{number_after, number_with, pairs_in_
 use moos_db::Letter;
 use moos_post::{Milli, Name, Value};
 
-/// The number of this variable once these letters were heard, where it was another one before.
+/// The number of this variable once these letters were heard, if it was another one before.
 pub(crate) fn number_after(var: &[u8], letters: &[Letter], before: Option<Milli>) -> Option<Milli>
     ensures { result ≡ number_after var.now before (pairs_in_mail letters.now) }
 {
@@ -37,7 +37,7 @@ fn as_number(value: &Value) -> Option<Milli>
     }
 }
 
-/// A number in thousandths, where it is known.
+/// A number in thousandths, if it is known.
 pub(crate) fn thousandths(number: Option<Milli>) -> Option<i64>
     ensures value { result ≡ number }
     ensures within { IfSome result IsMilli }

@@ -11,11 +11,11 @@ use Rattle.sim_vehicle.specs.declared.settings.CraftSettings.{CraftSettings}
 abbrev pub start_hull : CraftSettings → Hull
 start_hull craft = record { x = craft.start_x; y = craft.start_y; heading = craft.start_heading; speed = pos 0; depth = craft.start_depth }
 
--- a rudder as the vehicle takes it: held within a hundred either way, and 0 where it is unknown
+-- a rudder as the vehicle takes it: held within a hundred either way, and 0 if it is unknown
 abbrev pub rudder_taken : Option ℤ → ℤ
 rudder_taken rudder = limited (pos 100000) (unwrap_or rudder (pos 0))
 
--- a thrust as the vehicle takes it: held from 0 to a hundred, and 0 where it is unknown
+-- a thrust as the vehicle takes it: held from 0 to a hundred, and 0 if it is unknown
 abbrev pub thrust_taken : Option ℤ → ℤ
 thrust_taken thrust = clamped (pos 0) (pos 100000) (unwrap_or thrust (pos 0))
 
@@ -48,7 +48,7 @@ whole_degrees heading = nat_abs heading / 1000
 abbrev pub coordinate_after : ℤ → ℤ → ℕ → ℤ → ℤ
 coordinate_after start speed dt sine = limited (pos (10 ^ 12)) (start +ℤ int_div (speed *ℤ pos dt *ℤ sine) (pos (10 ^ 7)))
 
--- how far below the vehicle the wanted depth lies; 0 where it is unknown
+-- how far below the vehicle the wanted depth lies; 0 if it is unknown
 abbrev pub depth_error : ℤ → Option ℤ → ℤ
 depth_error depth None = pos 0
 depth_error depth (Some want) = want -ℤ depth

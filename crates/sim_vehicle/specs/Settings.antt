@@ -64,11 +64,11 @@ settings =
 abbrev pub is_setting_name : List ℕ → CraftSetting → Bool
 is_setting_name name setting = str_eq_ignore_ascii_case name (setting_name setting)
 
--- the setting of this name, where one has it
+-- the setting of this name, if one has it
 abbrev pub setting_named : List ℕ → Option CraftSetting
 setting_named name = find (is_setting_name name) settings
 
--- what they are where a file sets nothing
+-- what they are if a file sets nothing
 abbrev pub default_settings : CraftSettings
 default_settings =
     record {

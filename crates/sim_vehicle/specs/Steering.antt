@@ -21,7 +21,7 @@ Lies low high number = (low ≤ℤ number) × (number ≤ℤ high)
 abbrev pub signed_angle : ℤ → ℤ
 signed_angle angle = if int_lt (pos 180000) angle then angle -ℤ pos 360000 else angle
 
--- the error: how far clockwise of the own heading the wanted one lies; 0 where one of them is unknown
+-- the error: how far clockwise of the own heading the wanted one lies; 0 if one of them is unknown
 abbrev pub heading_error : Option ℤ → Option ℤ → ℤ
 heading_error None heading = pos 0
 heading_error (Some want) None = pos 0
@@ -48,7 +48,7 @@ rudder_of craft rig error =
     (error *ℤ craft.yaw_kp +ℤ (rig_after craft rig error).integral *ℤ craft.yaw_ki +ℤ (error -ℤ rig.last_error) *ℤ craft.yaw_kd)
     (pos 1000))
 
--- the thrust for a wanted speed: in proportion to it; 0 where none is known
+-- the thrust for a wanted speed: in proportion to it; 0 if none is known
 abbrev pub thrust_of : CraftSettings → Option ℤ → ℤ
 thrust_of craft None = pos 0
 thrust_of craft (Some speed) = clamped (pos 0) craft.max_thrust (int_div (speed *ℤ craft.speed_factor) (pos 1000))

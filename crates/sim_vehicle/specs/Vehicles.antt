@@ -15,7 +15,7 @@ abbrev pub set_checked : CraftSettings → CraftSetting → Option ℤ → Resul
 set_checked settings setting None = Err V2
 set_checked settings setting (Some number) = if is_allowed setting number then Ok (set_to settings setting number) else Err V2
 
--- the same by the setting that a line names, where there is one
+-- the same by the setting that a line names, if there is one
 abbrev pub set_by_name : CraftSettings → Option CraftSetting → Option ℤ → Result CraftSettings Cause
 set_by_name settings None number = Err V1
 set_by_name settings (Some setting) number = set_checked settings setting number
@@ -33,7 +33,7 @@ set_by_statement settings said = set_by_sides settings (sides_of said.text)
 abbrev pub vehicle_of : List ℕ → Result CraftSettings ReadFault
 vehicle_of bytes = made_of_all V1 set_by_statement default_settings (statements_of bytes)
 
--- a line by its number and what it says, which is nothing where it is blank; for the reader alone
+-- a line by its number and what it says, which is nothing if it is blank; for the reader alone
 abbrev pub set_by_text : ℕ → CraftSettings → List ℕ → Result CraftSettings ReadFault
 set_by_text line settings [] = Ok settings
 set_by_text line settings (byte ∷ bytes) = made_of V1 set_by_statement settings (record { line = line; text = byte ∷ bytes })

@@ -22,7 +22,7 @@ pub struct Hull {
 }
 
 /// Where the vehicle is after a step of `dt` milliseconds, from 1 to 1,000,000, and how it moves then, by the rudder, the
-/// thrust and the wanted depth, in thousandths and where they are known. Each that is given lies within 10^12 either way.
+/// thrust and the wanted depth, in thousandths and if they are known. Each that is given lies within 10^12 either way.
 pub fn advance(
     craft: &Craft,
     hull: &Hull,

@@ -47,7 +47,7 @@ impl Rig {
     }
 
     /// What the controller asks of this vehicle in one step, by the heading and the speed that the helm wants and the
-    /// vehicle's heading, in thousandths and where they are known. Each that is given lies within 10^12 either way. The
+    /// vehicle's heading, in thousandths and if they are known. Each that is given lies within 10^12 either way. The
     /// rudder is within `max_rudder` either way, and the thrust from 0 to `max_thrust`.
     pub fn control(
         &mut self,

@@ -45,7 +45,7 @@ const SETTINGS: [CraftSetting; 16] = [
     CraftSetting::SpeedFactor,
 ];
 
-/// The setting of this name, in letters of either case, where one has it.
+/// The setting of this name, in letters of either case, if one has it.
 pub fn setting_named(name: &[u8]) -> Option<CraftSetting>
     ensures { result ≡ setting_named name.now }
 {

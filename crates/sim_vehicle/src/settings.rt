@@ -21,7 +21,7 @@ pub struct CraftSettings {
     pub turn_rate: i64,
     /// How fast it speeds up, in metres a second each second.
     pub accel: i64,
-    /// How fast it slows down, likewise.
+    /// How fast it slows down, in the same unit.
     pub decel: i64,
     /// How fast it dives and rises, in metres a second.
     pub dive: i64,
@@ -42,7 +42,7 @@ pub struct CraftSettings {
 }
 
 impl CraftSettings {
-    /// What they are where a file sets nothing.
+    /// What they are if a file sets nothing.
     pub fn defaults() -> CraftSettings
         ensures { result ≡ default_settings }
     {

@@ -16,7 +16,7 @@ use Rattle.moos_client.specs.Calls.{entries_of, entry_of}
 use Rattle.moos_client.specs.Hearing.{heard_in}
 use Rattle.moos_lawful.specs.Answering.{Answerer, answers_of, openings, turns_from}
 use Rattle.moos_lawful.specs.Schedules.{clients_below}
-use Rattle.moos_play.specs.Lawful.{heard_of, helm_number, mailed_in, names_with, Steering}
+use Rattle.moos_play.specs.Lawful.{heard_of, helm_number, mailed_in, names_with, HelmSetup}
 use Rattle.moos_play.specs.Schedules.{answering}
 use Rattle.moos_post.specs.declared.entry.Call.TheVariants.{Register, Post as Posts, Fetch}
 use Rattle.moos_post.specs.declared.entry.Entry.{Entry}
@@ -47,7 +47,7 @@ record SaysCalls (answerer : Answerer Tick) : Type 0 where
   pub opening : All IsCall answerer.opening
   pub says : (heard : List Tick) → IsCall (Posts (answerer.says heard))
 
-helm_says : (helm : Steering) → IsWellFormedPlan helm.plan → SaysCalls (answering helm)
+helm_says : (helm : HelmSetup) → IsWellFormedPlan helm.plan → SaysCalls (answering helm)
 helm_says helm formed = record {
   opening = All-cons IsCall (Register (wants_of helm.plan)) (cond (nat_lt 0 (length helm.plan.opening)) (Posts helm.plan.opening ∷ []) []) formed.wants (posted (nat_lt 0 (length helm.plan.opening)));
   says = λ heard. (formed.iterations heard (length heard - 1)).posts;

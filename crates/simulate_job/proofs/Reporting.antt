@@ -2,7 +2,7 @@
 use Rattle.std.proofs.Common.{◌≡◌, ◌≤◌, ℕ, zero, suc, Bool, List, [], length, false, true, Option, None, Some, refl, ap, sym, ◌∙◌, subst, arith}
 use Rattle.std.specs.Prelude.{is_some, Result, Err}
 use Rattle.helm_core.specs.declared.iteration.Iteration.{Iteration}
-use Rattle.moos_play.specs.Lawful.{heard_of, iterations, Steering}
+use Rattle.moos_play.specs.Lawful.{heard_of, iterations, HelmSetup}
 use Rattle.moos_play.specs.Plays.{clients_in, GoesOnWith, helm_in, Playing, script_played}
 use Rattle.moos_post.specs.History.{History}
 use Rattle.moos_report.specs.declared.setup.Setup.{Setup}
@@ -58,7 +58,7 @@ of_on task setup gear gear' old new on same of = record {
 }
 
 -- the report of a history that a vehicle leaves beside such a play
-pub may_report : (task : Simulation) (setup : Setup) (gear : Gear) (script : Script) (helm : Option Steering) (names : List (List ℕ)) (history : History) (made : List Iteration)
+pub may_report : (task : Simulation) (setup : Setup) (gear : Gear) (script : Script) (helm : Option HelmSetup) (names : List (List ℕ)) (history : History) (made : List Iteration)
     → IsOfSimulation task setup gear script helm names → IsSimulated script helm gear names history → iterations helm script.stop (heard_of names (length script.names) history) ≡ made
     → IsVoyage task (report_text setup names history made)
 may_report task setup gear script helm names history made of simulated is = record {

@@ -11,9 +11,9 @@ use Rattle.helm_core.specs.declared.iteration.Iteration.{Iteration}
 use Rattle.helm_core.specs.Plans.{plan_made}
 use Rattle.helm_core.specs.Worths.{DecidesByWorth}
 use Rattle.helm_files.specs.declared.loading.HelmFiles.{HelmFiles}
-use Rattle.helm_files.specs.HelmFiles.{setup_of, steering_by}
+use Rattle.helm_files.specs.HelmFiles.{setup_of, helm_setup_by}
 use Rattle.helm_files.specs.Loading.{helm_turn}
-use Rattle.moos_play.specs.Lawful.{Steering, heard_of, helm_number, iterations, names_with}
+use Rattle.moos_play.specs.Lawful.{HelmSetup, heard_of, helm_number, iterations, names_with}
 use Rattle.moos_post.specs.declared.value.Pair.{Pair}
 use Rattle.moos_post.specs.History.{History}
 use Rattle.moos_report.specs.declared.setup.Setup.{Setup}
@@ -41,7 +41,7 @@ pub record Simulation : Type 0 where
   pub files : HelmFiles
   pub gear : Gear
 
--- a line of a client of the vehicle is refused, the first one where there is one
+-- a line of a client of the vehicle is refused, the first one if there is one
 abbrev pub without_line : Option ℕ → Script → Result Script ReadFault
 without_line None script = Ok script
 without_line (Some line) script = Err (At line S11)
@@ -50,7 +50,7 @@ without_line (Some line) script = Err (At line S11)
 abbrev pub simulated_script : Bool → List ℕ → Result Script ReadFault
 simulated_script watched bytes = and_then (without_line (line_of_client (vehicle_names watched) bytes)) (script_of bytes)
 
--- a script, a helm's files and a craft are all that a simulation needs, with the ranges of contacts, where there are any
+-- a script, a helm's files and a craft are all that a simulation needs, with the ranges of contacts, if there are any
 abbrev pub all_read : Script → HelmFiles → CraftSettings → Option Ranges → FileTurn Simulation
 all_read script files craft ranges = Ready (record { script = script; files = files; gear = record { craft = craft; ranges = ranges } })
 
@@ -65,8 +65,8 @@ abbrev pub vehicle_turn : Script → List ℕ → Option (List ℕ) → HelmFile
 vehicle_turn script vehicle contacts files [] = Wanted VehicleFile vehicle
 vehicle_turn script vehicle contacts files (bytes ∷ more) = turn_behind VehicleFile (λ craft. contacts_turn script files contacts craft more) (vehicle_of bytes)
 
--- Where the job stands, by the bytes of the files that were loaded so far, in order: a script, a mission, the behaviour file that the
--- mission names, a vehicle file, and a contacts file, where one is named.
+-- Where the job is, by the bytes of the files that were loaded so far, in order: a script, a mission, the behaviour file that the
+-- mission names, a vehicle file, and a contacts file, if one is named.
 abbrev pub simulate_turn : List ℕ → List ℕ → List ℕ → Option (List ℕ) → List (List ℕ) → FileTurn Simulation
 simulate_turn script mission vehicle contacts [] = Wanted ScriptFile script
 simulate_turn script mission vehicle contacts (bytes ∷ more) =
@@ -75,8 +75,8 @@ simulate_turn script mission vehicle contacts (bytes ∷ more) =
 -- ---- what may be written
 
 -- how the helm is run
-abbrev pub helm_sailed : Simulation → Steering
-helm_sailed task = steering_by task.script task.files
+abbrev pub helm_sailed : Simulation → HelmSetup
+helm_sailed task = helm_setup_by task.script task.files
 
 -- the names of the clients: the script's, the helm's and the vehicle's
 abbrev pub names_sailed : Simulation → List (List ℕ)
@@ -124,7 +124,7 @@ simulate_outcomes = record { MayWrite = MayReport; IsWrittenAsItComes = λ task.
 
 -- a script, a helm, names of clients, a gear and a setup that are those of this simulation, whose reports tell their histories, whose
 -- vehicle keeps in range and whose helm decides by worth
-pub record IsOfSimulation (task : Simulation) (setup : Setup) (gear : Gear) (script : Script) (helm : Option Steering) (names : List (List ℕ)) : Type 0 where
+pub record IsOfSimulation (task : Simulation) (setup : Setup) (gear : Gear) (script : Script) (helm : Option HelmSetup) (names : List (List ℕ)) : Type 0 where
   pub same_script : script ≡ task.script
   pub same_helm : helm ≡ Some (helm_sailed task)
   pub same_names : names ≡ names_sailed task

@@ -26,7 +26,7 @@ use std::alloc::Global;
 use std::sync::Wait;
 use std::thread::Threads;
 
-/// Loads and reads the script, the mission, the behaviour file that it names, the vehicle file, and the contacts file, where one is
+/// Loads and reads the script, the mission, the behaviour file that it names, the vehicle file, and the contacts file, if one is
 /// named, plays the script beside the vehicle, and writes the report as it comes. The helm has so many workers.
 pub fn simulate<R: Threads + Wait + Sync, F: Folder, K: Sink, G: Gate>(
     rt: &R,
@@ -124,7 +124,7 @@ fn with_vehicle<R: Threads + Wait + Sync, F: Folder, K: Sink, G: Gate>(
     }
 }
 
-// Goes on with the contacts file of this name, where one is named.
+// Goes on with the contacts file of this name, if one is named.
 fn with_contacts<R: Threads + Wait + Sync, F: Folder, K: Sink, G: Gate>(
     rt: &R,
     alloc: Global,

@@ -4,7 +4,7 @@ ghost use Rattle.std.specs.Prelude.{◌≡◌, ◌+◌, ◌++◌, ◌^◌, ◌<�
 ghost use Rattle.moos_report.specs.Lines.{KeepsLines};
 ghost use Rattle.command_line.specs.Endings.{sinking};
 ghost use Rattle.moos_io.specs.Faults.{Faring, FaresOn};
-ghost use Rattle.moos_play.specs.Lawful.{MayStart, names_with, steering_with};
+ghost use Rattle.moos_play.specs.Lawful.{MayStart, names_with, helm_setup_with};
 ghost use Rattle.moos_play.specs.Plays.{clients_in, GoesOnWith, helm_in, history_in, iterations_made, left_in, script_played};
 ghost use Rattle.moos_simulate.specs.Sailing.{IsSailedOut, IsSimulating};
 ghost use Rattle.moos_simulate.specs.Simulated.{gear_names};
@@ -41,7 +41,7 @@ pub fn sail<R: Threads + Wait + Sync, K: Sink, G: Gate>(
     requires period { helm.period ≤ 10 ^ 6 }
     requires few { (1 ≤ workers) × (workers ≤ 16) }
     // Whichever simulation this is.
-    ensures { (task : Simulation) → IsOfSimulation task setup.now gear script.now (Some (steering_with script.now helm)) (names_with script.now (Some helm) ++ gear_names gear)
+    ensures { (task : Simulation) → IsOfSimulation task setup.now gear script.now (Some (helm_setup_with script.now helm)) (names_with script.now (Some helm) ++ gear_names gear)
         → Tells (IsVoyage task) (sinking (K.taken out.old) (K.taken out.new) (K.faults out.old) (K.faults out.new)) result }
 {
     let period = helm.period;
@@ -115,8 +115,8 @@ fn tell<R: Threads + Wait + Sync, K: Sink, G: Gate>(
     }
 }
 
-// Plays the next round and tells it, where the helm has made so many iterations before, and answers how many it made in it.
-// None where no round is left. The buffer is empty before and after, and the lines that are kept are of the play's posts.
+// Plays the next round and tells it, if the helm has made so many iterations before, and answers how many it made in it.
+// None if no round is left. The buffer is empty before and after, and the lines that are kept are of the play's posts.
 fn tell_round<R: Threads + Wait + Sync, K: Sink, G: Gate>(
     rt: &R,
     alloc: Global,

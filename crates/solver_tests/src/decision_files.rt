@@ -5,7 +5,7 @@ use moos_text::{Cause, ReadFault};
 use std::alloc::Global;
 use std::process::Abort;
 
-// What stands behind a problem of five lines, and the line and the cause of its refusal.
+// What follows a problem of five lines, and the line and the cause of its refusal.
 const REFUSED: &[(&[u8], u32, Cause)] = &[
     // A decision outside its form, before a point outside the domain.
     (b"decision\n", 6, Cause::P1),

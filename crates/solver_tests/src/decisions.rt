@@ -87,7 +87,7 @@ fn solved(rt: &impl Abort, alloc: Global, text: &[u8], at: [u32; 4], prefix: &[u
     sink
 }
 
-/// Whether a decision is accepted, where the text is one. What the decision prints stands for it.
+/// Whether a decision is accepted, if the text is one. What the decision prints stands for it.
 fn is_accepted(rt: &impl Abort, alloc: Global, text: &[u8]) -> Option<bool> {
     assert!(rt; text.len() < 4_000_000_000);
     match read_decision(alloc, text) {
@@ -161,7 +161,7 @@ const LINES: [&[u8]; 4] = [
     b"cut : 0.007 3\n",
 ];
 
-/// How often each of the lines stands in a long certificate: together they are some chunks of several workers, and no whole number
+/// How often each of the lines is in a long certificate: together they are some chunks of several workers, and no whole number
 /// of chunks.
 const TIMES: usize = 30_000;
 
@@ -276,7 +276,7 @@ fn most_points(rt: HostRuntime) {
     assert_eq!(rt; is_accepted(&rt, alloc, &expected), Some(true));
 }
 
-// A good decision and changes of it, and whether each is accepted; None where it isn't read.
+// A good decision and changes of it, and whether each is accepted; None if it isn't read.
 const CHANGED_DECISIONS: &[(&[u8], Option<bool>)] = &[
     (
         b"decision 0 1 0 75\ncut 0 0 : 75 2\ncut 0 1 : 55 10\ndone\n",

@@ -100,7 +100,7 @@ fn indices(rt: HostRuntime) {
     }
 }
 
-/// The number at a place, where the axis has it.
+/// The number at a place, if the axis has it.
 fn number_of(domain: &Domain, axis: u32, place: u32) -> Option<i64> {
     if axis < domain.axes() && place < domain.axis(axis).points {
         Some(domain.value(axis, place))

@@ -1,4 +1,4 @@
-// Functions by their pieces: partitions, values, how many may stand.
+// Functions by their pieces: partitions, values, how many may be.
 ghost use Rattle.std.specs.Prelude.{◌≡◌, ◌<◌, IsTrue};
 ghost use Rattle.ivp_domain.specs.Domains.{is_point};
 
@@ -10,7 +10,7 @@ use std::marker::Brand;
 use std::process::Abort;
 use std::sync::ledger::{Blank, Ledger};
 
-/// The function that pieces make which may stand in one.
+/// The function that pieces make which may be in one.
 fn made(rt: &impl Abort, alloc: Global, domain: &Domain, pieces: Vec<Piece>) -> Func {
     assert!(rt; are_pieces_of(domain, &pieces), "pieces that fit");
     Func::make(alloc, domain, pieces).expect(rt, "a function")
@@ -137,7 +137,7 @@ fn counted<L: Ledger>(func: &Func, point: &Point, blank: Blank) -> i64
     func.value_at(point, &mut steps)
 }
 
-/// The value at the point of an index, where the domain has it.
+/// The value at the point of an index, if the domain has it.
 fn value(func: &Func, index: u32) -> Option<i64> {
     let domain = func.domain();
     if index < domain.points() {

@@ -1,6 +1,6 @@
 //! What tests alone show of the solver: that its calls succeed with ample memory, and give what was worked by hand.
 //!
-//! The tests of all crates of the solver stand here, since a crate with tests of its own is proved once more with them. One
+//! The tests of all crates of the solver are here, since a crate with tests of its own is proved once more with them. One
 //! module for each subject, by the layers from the lowest, and `made`, which makes problems for them: `domains`, `functions`,
 //! `problems`, `shared_word`, `search` by one, `closing` of nodes, `whole_searches` by several workers and their `teams`, `shapes`
 //! and `formulas` of the builders and `builders` that are asked for too many pieces, `problem_files` and `decision_files` of

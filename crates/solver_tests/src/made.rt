@@ -1,11 +1,11 @@
-// Problems and their parts, as several tests make them, where memory is left.
+// Problems and their parts, as several tests make them, if memory is left.
 use ivp_domain::{Axis, AxisName, BoxN, Domain};
 use ivp_func::{Func, Piece, are_pieces_of};
 use ivp_problem::{Key, Problem, Term, greater_own, key_of, sum_at};
 use std::alloc::Global;
 use std::process::Abort;
 
-/// A term of these pieces, where they make a function.
+/// A term of these pieces, if they make a function.
 pub(crate) fn term(
     rt: &impl Abort,
     alloc: Global,
@@ -137,7 +137,7 @@ pub(crate) fn two(rt: &impl Abort, alloc: Global) -> Problem {
     problem_of(rt, alloc, twelve(rt), &all)
 }
 
-/// The sum at the point of an index, where the domain has it.
+/// The sum at the point of an index, if the domain has it.
 pub(crate) fn sum(problem: &Problem, index: u32) -> Option<u64> {
     let domain = problem.domain();
     if index < domain.points() {
@@ -148,7 +148,7 @@ pub(crate) fn sum(problem: &Problem, index: u32) -> Option<u64> {
     }
 }
 
-/// The key at the point of an index, where the domain has it.
+/// The key at the point of an index, if the domain has it.
 pub(crate) fn key_at(problem: &Problem, index: u32) -> Option<Key> {
     let domain = problem.domain();
     if index >= domain.points() {

@@ -77,7 +77,7 @@ fn bound(problem: &Problem, node: &Node) -> (u64, u32)
     (sum_of(key), index_of_key(key))
 }
 
-/// A child by the number of a piece, where the next function has it.
+/// A child by the number of a piece, if the next function has it.
 fn child(problem: &Problem, node: &Node, piece: u32) -> Option<Node>
     requires { IsNode problem.now node.now }
     ensures { IfSome result (IsNode problem.now) }

@@ -29,7 +29,7 @@ fn counted<L: Ledger>(func: &Func, point: &Point, blank: Blank) -> i64
     func.value_at(point, &mut steps)
 }
 
-/// The value at the point of an index, where the domain has it.
+/// The value at the point of an index, if the domain has it.
 pub(crate) fn value(func: &Func, index: u32) -> Option<i64> {
     let domain = func.domain();
     if index < domain.points() {
@@ -150,7 +150,7 @@ fn is_peak(shape: &Peak) -> bool
     true
 }
 
-/// The peak of these numbers on the first axis, where they are within their bounds.
+/// The peak of these numbers on the first axis, if they are within their bounds.
 pub(crate) fn peaked(rt: &impl Abort, alloc: Global, domain: &Domain, shape: &Peak) -> Func {
     assert!(rt; domain.axes() >= 1);
     assert!(rt; is_peak(shape));

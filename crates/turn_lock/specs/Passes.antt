@@ -55,7 +55,7 @@ pub record WasLent {E B : Type 0} (pass : PassState E B) (number : ℕ) (history
 abbrev pub has_number : {E : Type 0} → ℕ → Met E → Bool
 has_number n met = met.number == n
 
--- the events of a number whose pass was taken in, none where none was
+-- the events of a number whose pass was taken in, none if none was
 abbrev pub events_in : {E : Type 0} → List (Met E) → ℕ → List E
 events_in [] n = []
 events_in (one ∷ met) n = if has_number n one then one.events else events_in met n

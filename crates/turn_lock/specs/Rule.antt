@@ -1,4 +1,4 @@
--- What the words, the slot and the passes of a lock keep between any two steps. The history stands in the proofs alone.
+-- What the words, the slot and the passes of a lock keep between any two steps. The history is in the proofs alone.
 use Rattle.std.specs.Prelude.{◌≡◌, ℕ, ◌+◌, ◌-◌, ◌%◌, ◌^◌, ◌<◌, ◌≤◌, ◌==◌, ◌⊎◌, Bool, true, false, if◌then◌else◌, List, [], ◌∷◌, length, count_by, Option, Some, None}
 use Rattle.std.specs.List.{sum_by}
 use mathlib.Core.Option.{some, none}
@@ -48,7 +48,7 @@ has_turn (Holds ticket history) = true
 abbrev pub tickets : {E B : Type 0} → Known E B → ℕ
 tickets v = if v.live then (if has_ticket v.turn then 1 else 0) else 0
 
--- how many of the lock's passes stand in this one: itself and those that it has taken in
+-- how many of the lock's passes are in this one: itself and those that it has taken in
 abbrev pub weight : {E B : Type 0} → Known E B → ℕ
 weight v = if v.live then 1 + length v.met else 0
 
@@ -69,7 +69,7 @@ pub record Book (E : Type 0) : Type 0 where
   pub start : ℕ
   pub queue : List ℕ
 
--- where the pass of a seat stands in the queue
+-- where the pass of a seat is in the queue
 abbrev pub IsPlaced : {E : Type 0} → Book E → ℕ → Turn E → Type 0
 IsPlaced book seat Idle = Unit {0}
 IsPlaced book seat (Waits ticket) = (k : ℕ) × (ticket ≡ book.start + k) × (get_elem? book.queue k ≡ some seat)

@@ -24,7 +24,7 @@ abbrev pub Draws : {E B S : Type 0} → Step S → Me S (Known E B) → ℕ → 
 Draws step me found after = (ticket : ℕ) × (found ≡ ticket % 2 ^ 64) × (after ≡ (record me.0 { turn = Waits ticket }, me.1))
 
 -- the value is lent to a pass in its turn: its history begins with all that the pass has seen, has of its number just its
--- own events, and is whole where the pass has taken in all others
+-- own events, and is whole if the pass has taken in all others
 pub record IsLent {E B S : Type 0} (base_of : S → B) (history_of : S → List E) (number : E → ℕ) (ticket : ℕ) (v : Known E B) (x : S) (w : Known E B) : Type 0 where
   pub holds : w ≡ record v { turn = Holds ticket (history_of x) }
   pub seen : Begins (history_of x) v.seen
@@ -37,7 +37,7 @@ abbrev pub Takes : {E B S : Type 0} → (S → B) → (S → List E) → (E → 
 Takes {E} {B} {S} base_of history_of number ticket me after =
     (x : S) × IsLent base_of history_of number ticket me.0 x after.0 × (after.1 ≡ (0, Some x) ∷ me.1)
 
--- where the word is the ticket's the value was taken, and else nothing changed
+-- if the word is the ticket's the value was taken, and else nothing changed
 abbrev pub Polls : {E B S : Type 0} → (S → B) → (S → List E) → (E → ℕ) → Step (Option S) → Me (Option S) (Known E B) → ℕ → Me (Option S) (Known E B) → Type 0
 Polls base_of history_of number step me found after =
     (ticket : ℕ) → me.0.turn ≡ Waits ticket → MatchBool (found == ticket % 2 ^ 64) (Takes base_of history_of number ticket me after) (after ≡ me)

@@ -4,15 +4,15 @@
 //! seen; giving it back adds one event of the pass's own to the history, or none; and once the first pass has taken in
 //! all others, the history is just what the passes have added, each one's events in its order.
 //!
-//! Reading order: `journal`, `pass`, `held`, `lock`; then `board`, the steps on the words and the slot under it, and
+//! Reading order: `journal`, `pass`, `held`, `lock`; then `lock_table`, the steps on the words and the slot under it, and
 //! `bells`, on which those sleep that wait; then `view` and `rule`, what the proofs keep.
 #![tactic(auto)]
 
 mod bells;
-mod board;
 mod held;
 mod journal;
 mod lock;
+mod lock_table;
 mod pass;
 mod rule;
 mod view;

@@ -4,9 +4,9 @@ ghost use Rattle.std.specs.List.{list_any};
 ghost use Rattle.turn_lock.specs.Passes.{Begins, beside, WasLent, events_in, first_pass, has_number, HasAll, IsFree, IsOf, KnowsAll, met_with, own, without_number};
 
 use crate::bells::Bells;
-use crate::board::{self, Locked};
 use crate::held::Held;
 use crate::journal::Journaled;
+use crate::lock_table::{self, LockTable};
 use crate::pass::Pass;
 use atomic_table::Table;
 use std::alloc::Global;
@@ -17,7 +17,7 @@ use std::sync::Wait;
 /// A lock over a value. Who has a pass takes the value in turn. Contracts see which lock it is, and the base of its value.
 #[derive(Drop)]
 pub struct TurnLock<S: Journaled> {
-    pub(crate) table: Locked<S>,
+    pub(crate) table: LockTable<S>,
     pub(crate) bells: Bells,
 }
 
@@ -33,7 +33,7 @@ impl<S: Journaled> Model for TurnLock<S> {
 }
 
 impl<S: Journaled> TurnLock<S> {
-    /// A lock over this value, which has no events yet, with its first pass. There may be so many passes. Where no memory
+    /// A lock over this value, which has no events yet, with its first pass. There may be so many passes. If no memory
     /// is left the value comes back.
     pub fn make(alloc: Global, value: S, passes: u32) -> Result<(TurnLock<S>, Pass<S>), S>
         requires some { 1 ≤ passes }
@@ -70,7 +70,7 @@ impl<S: Journaled> TurnLock<S> {
         ensures pass { pass.new ≡ record pass.old { left = pass.old.left - 1; made = pass.old.made + 1 } }
         ensures new { result ≡ beside pass.old (pass.old.made + 1) [] }
     {
-        let seat = board::split(&self.table.shared, &mut pass.seat);
+        let seat = lock_table::split(&self.table.shared, &mut pass.seat);
         pass.made += 1;
         Pass {
             number: pass.made,
@@ -92,7 +92,7 @@ impl<S: Journaled> TurnLock<S> {
             made: _,
             seat,
         } = other;
-        board::meet(&self.table.shared, &mut pass.seat, seat);
+        lock_table::meet(&self.table.shared, &mut pass.seat, seat);
     }
 
     /// Parts the pass of a number again from the first pass, which has taken it in. It has seen as much as the first.
@@ -103,7 +103,7 @@ impl<S: Journaled> TurnLock<S> {
         ensures pass { pass.new ≡ record pass.old { met = without_number number pass.old.met } }
         ensures part { result ≡ beside pass.old number (events_in pass.old.met number) }
     {
-        let seat = board::part(&self.table.shared, &mut pass.seat, number);
+        let seat = lock_table::part(&self.table.shared, &mut pass.seat, number);
         Pass {
             number,
             made: 0,
@@ -128,8 +128,8 @@ impl<S: Journaled> TurnLock<S> {
             made,
             mut seat,
         } = pass;
-        let left = board::leave(&table.shared, &mut seat);
-        let value = board::close(table, seat);
+        let left = lock_table::leave(&table.shared, &mut seat);
+        let value = lock_table::close(table, seat);
         (
             value,
             Pass {
@@ -141,7 +141,7 @@ impl<S: Journaled> TurnLock<S> {
     }
 
     /// Lends the value to the pass, in its turn: it waits until all who asked before have given the value back. The
-    /// history then begins with all that the pass has seen, and has of its number just the pass's own events; and where
+    /// history then begins with all that the pass has seen, and has of its number just the pass's own events; and if
     /// the first pass has taken in all others, it is just what the passes have added.
     pub fn take<R: Wait>(&self, rt: &R, pass: &mut Pass<S>) -> Held<S>
         requires lock { IsOf self.now pass.old }
@@ -154,8 +154,8 @@ impl<S: Journaled> TurnLock<S> {
         ensures pass { pass.new ≡ record pass.old { turn = Some (S.history result.value) } }
     {
         let table = &self.table.shared;
-        let ticket = board::draw(table, &mut pass.seat);
-        let value = board::take(rt, table, &self.bells, &mut pass.seat, ticket);
+        let ticket = lock_table::draw(table, &mut pass.seat);
+        let value = lock_table::take(rt, table, &self.bells, &mut pass.seat, ticket);
         let start = Snapshot::of(&value);
         Held {
             value,
@@ -177,7 +177,7 @@ impl<S: Journaled> TurnLock<S> {
             number: _,
             start: _,
         } = held;
-        board::put_back(&self.table.shared, &self.bells, &mut pass.seat, value);
+        lock_table::put_back(&self.table.shared, &self.bells, &mut pass.seat, value);
     }
 
     /// Gives the value back with the history that it had when it was taken.
@@ -193,11 +193,11 @@ impl<S: Journaled> TurnLock<S> {
             number: _,
             start: _,
         } = held;
-        board::put_back(&self.table.shared, &self.bells, &mut pass.seat, value);
+        lock_table::put_back(&self.table.shared, &self.bells, &mut pass.seat, value);
     }
 }
 
-// The slots of a table whose only slot holds the value. Where no memory is left the value comes back.
+// The slots of a table whose only slot holds the value. If no memory is left the value comes back.
 fn only_slot<S>(alloc: Global, value: S) -> Result<Vec<Option<S>>, S>
     ensures slots { IfOk result (λ slots. slots.items ≡ Some value ∷ []) }
     ensures back { IfErr result (λ back. back ≡ value) }

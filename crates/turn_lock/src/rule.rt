@@ -25,7 +25,7 @@ impl<S: Journaled> Play<Option<S>, Known<S::Event, S::Base>> for Draw {
     ghost then = { Draws };
 }
 
-/// The turn is looked at, and taken where it is the ticket's.
+/// The turn is looked at, and taken if it is the ticket's.
 pub(crate) struct Poll;
 
 impl<S: Journaled> Play<Option<S>, Known<S::Event, S::Base>> for Poll {

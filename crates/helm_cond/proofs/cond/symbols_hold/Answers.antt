@@ -3,7 +3,7 @@ use Rattle.std.proofs.lemmas.List.{drop_more}
 use Rattle.helm_cond.specs.Conditions.{comparison_holds, holds}
 use Rattle.helm_cond.specs.Infos.{knowledge_of}
 use Rattle.helm_cond.specs.Levels.{LeadsTo}
-use Rattle.helm_cond.specs.Told.{condition_in}
+use Rattle.helm_cond.specs.KeptConditions.{condition_in}
 use Rattle.helm_cond.proofs.Whole.{begins_whole}
 use Rattle.helm_cond.proofs.cond.symbols_hold.Goals as goal
 
@@ -12,8 +12,8 @@ loop-symbol-init c =
     subst (λ open_levels. LeadsTo (comparison_holds (knowledge_of c.args.info.now) c.args.mode.now) open_levels c.args.symbols.now (holds (knowledge_of c.args.info.now) c.args.mode.now (condition_in c.args.symbols.now)))
     (sym c.outermost-levels.ensures) (begins_whole (knowledge_of c.args.info.now) c.args.mode.now c.args.symbols.now c.requires)
 
-pub tell-requires : goal.tell-requires
-tell-requires c = (
+pub add_symbol-requires : goal.add_symbol-requires
+add_symbol-requires c = (
   drop (c.loop-symbol.symbol-index + 1) c.args.symbols.now,
   (
     holds (knowledge_of c.args.info.now) c.args.mode.now (condition_in c.args.symbols.now),

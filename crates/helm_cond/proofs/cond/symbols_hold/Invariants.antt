@@ -2,7 +2,7 @@ use Rattle.std.proofs.Common.{drop}
 use Rattle.helm_cond.specs.Conditions.{comparison_holds, holds}
 use Rattle.helm_cond.specs.Infos.{knowledge_of}
 use Rattle.helm_cond.specs.Levels.{LeadsTo}
-use Rattle.helm_cond.specs.Told.{condition_in}
+use Rattle.helm_cond.specs.KeptConditions.{condition_in}
 use Rattle.helm_cond.proofs.cond.symbols_hold.Given as goal
 
 -- What is left comes to whether the condition holds.

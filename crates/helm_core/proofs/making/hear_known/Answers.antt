@@ -51,7 +51,7 @@ returns-clause-heard c clock before all =
     let tells : TellsGood c.args.domain.now one.doer pairs c.in_ok-good.good = subst (λ doer. TellsGood c.args.domain.now doer pairs c.in_ok-good.good) copied c.in_ok-good.ensures.good in
     is_changed c.args.domain.now blocks clock template before c.args.said kept c.args.place one all there' c.is_made_of.result c.in_ok-good.good c.in_ok-kept.field-0
     (subst (λ (it : Behavior). TellsMaker blocks template it c.is_made_of.result) same c.is_made_of.ensures) c.if-not-is_made_of.false tells c.if-not-good.false
-    (λ spec turns is. subst (IsDoerOf spec (with_said c.args.domain.now turns pairs)) (sym c.in_ok-kept.ensures) (c.in_ok-good.ensures.stands spec turns (subst (IsDoerOf spec turns) (sym copied) is)))
+    (λ spec changes is. subst (IsDoerOf spec (with_said c.args.domain.now changes pairs)) (sym c.in_ok-kept.ensures) (c.in_ok-good.ensures.stands spec changes (subst (IsDoerOf spec changes) (sym copied) is)))
 
 pub returns-clause-more : goal.returns-clause-more
 returns-clause-more c =
@@ -64,9 +64,9 @@ returns-clause-more c =
     let same : read ≡ one = cc in
     let copied : c.in_ok-doer.doer ≡ one.doer = c.in_ok-doer.ensures ∙ c.lent.ensures ∙ ap (λ (it : Behavior). it.doer) same in
     spawned_changed c.args.domain.now c.args.blocks.now kept c.args.place one c.in_ok-kept.field-0 there'
-    (λ spec turns is. record {
-      later = with_said c.args.domain.now turns pairs;
-      stands = subst (IsDoerOf spec (with_said c.args.domain.now turns pairs)) (sym c.in_ok-kept.ensures) (c.in_ok-good.ensures.stands spec turns (subst (IsDoerOf spec turns) (sym copied) is));
-      serves = serves_said c.args.domain.now spec turns pairs;
+    (λ spec changes is. record {
+      later = with_said c.args.domain.now changes pairs;
+      stands = subst (IsDoerOf spec (with_said c.args.domain.now changes pairs)) (sym c.in_ok-kept.ensures) (c.in_ok-good.ensures.stands spec changes (subst (IsDoerOf spec changes) (sym copied) is));
+      serves = serves_said c.args.domain.now spec changes pairs;
     })
     c.requires.may

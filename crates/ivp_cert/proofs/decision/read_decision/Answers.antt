@@ -1,7 +1,7 @@
 use Rattle.std.proofs.Common.{arith, sym, ◌∙◌}
 use Rattle.std.proofs.lemmas.Result.{err_from_is_err_and}
-use Rattle.ivp_cert.specs.declared.stage.Stage.TheVariants.{Start}
-use Rattle.ivp_cert.specs.declared.phase.Phase.TheVariants.{OfProblem}
+use Rattle.ivp_cert.specs.declared.stage.ProblemStage.TheVariants.{Start}
+use Rattle.ivp_cert.specs.declared.phase.DecisionStage.TheVariants.{OfProblem}
 use Rattle.ivp_cert.specs.Decisions.{decision_of}
 use Rattle.ivp_cert.specs.Stages.{phase_after, whole_decision}
 use Rattle.ivp_cert.proofs.Following.{decision_read}

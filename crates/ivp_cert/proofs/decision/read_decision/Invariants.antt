@@ -1,6 +1,6 @@
 use Rattle.std.proofs.Common.{length}
-use Rattle.ivp_cert.specs.declared.stage.Stage.TheVariants.{Start}
-use Rattle.ivp_cert.specs.declared.phase.Phase.TheVariants.{OfProblem}
+use Rattle.ivp_cert.specs.declared.stage.ProblemStage.TheVariants.{Start}
+use Rattle.ivp_cert.specs.declared.phase.DecisionStage.TheVariants.{OfProblem}
 use Rattle.ivp_cert.specs.Stages.{HasPoint, phase_after}
 use Rattle.ivp_cert.proofs.Reading.{IsRead}
 use Rattle.ivp_cert.proofs.decision.read_decision.Given as goal

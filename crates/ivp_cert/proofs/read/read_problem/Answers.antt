@@ -1,6 +1,6 @@
 use Rattle.std.proofs.Common.{sym, ◌∙◌, arith}
 use Rattle.std.proofs.lemmas.Result.{err_from_is_err_and}
-use Rattle.ivp_cert.specs.declared.stage.Stage.TheVariants.{Start}
+use Rattle.ivp_cert.specs.declared.stage.ProblemStage.TheVariants.{Start}
 use Rattle.ivp_cert.specs.Problems.{problem_of}
 use Rattle.ivp_cert.specs.Stages.{stage_after, whole_problem}
 use Rattle.ivp_cert.proofs.Bounded.{problem_whole}

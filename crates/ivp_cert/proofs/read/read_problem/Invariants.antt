@@ -1,5 +1,5 @@
 use Rattle.std.proofs.Common.{length}
-use Rattle.ivp_cert.specs.declared.stage.Stage.TheVariants.{Start}
+use Rattle.ivp_cert.specs.declared.stage.ProblemStage.TheVariants.{Start}
 use Rattle.ivp_cert.specs.Stages.{stage_after}
 use Rattle.ivp_cert.proofs.Reading.{IsRead}
 use Rattle.ivp_cert.proofs.read.read_problem.Given as goal

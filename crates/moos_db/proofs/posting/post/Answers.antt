@@ -3,7 +3,7 @@ use Rattle.std.specs.List.{All}
 use Rattle.moos_post.specs.History.{name_of, posts_of, posts_of_entry}
 use Rattle.moos_mail.specs.Mailboxes.{is_one_of}
 use Rattle.moos_db.specs.Clients.{ClientState}
-use Rattle.moos_db.specs.Hearers.{IsPosted}
+use Rattle.moos_db.specs.Subscriptions.{IsPosted}
 use Rattle.moos_db.specs.Places.{AreKept, inboxes_after}
 use Rattle.moos_db.proofs.Batches.{IsPosting, forgotten-kept, found-origin, kept-below, next-post, posting-end, posting-new, posting-next, posting-start, posts-next, ready-from}
 use Rattle.moos_db.proofs.posting.post.Goals as goal

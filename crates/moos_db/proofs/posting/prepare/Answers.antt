@@ -1,6 +1,6 @@
 use Rattle.std.proofs.Common.{◌∙◌, ◌++◌, ◌∷◌, [], ap, append_assoc, length, map, sym, subst, take}
 use Rattle.std.proofs.lemmas.List.{map_more}
-use Rattle.moos_db.specs.Hearers.{HearBelow, AreNoted, AreReady}
+use Rattle.moos_db.specs.Subscriptions.{HearBelow, AreNoted, AreReady}
 use Rattle.moos_db.proofs.Rooms.{alike-ready}
 use Rattle.moos_db.proofs.posting.prepare.Goals as goal
 

@@ -2,7 +2,7 @@
 use Rattle.std.proofs.Common.{◌++◌, ℕ, List, length, map, take}
 use Rattle.moos_post.specs.declared.value.Post.{Post}
 use Rattle.moos_post.specs.Delivery.{Inbox}
-use Rattle.moos_db.specs.Hearers.{HearBelow, AreNoted, AreReady}
+use Rattle.moos_db.specs.Subscriptions.{HearBelow, AreNoted, AreReady}
 use Rattle.moos_db.proofs.posting.prepare.Given as goal
 
 abbrev pub invariant-loop-pair : goal.invariant-loop-pair

@@ -5,7 +5,7 @@ use Rattle.moos_post.specs.declared.entry.Call.TheVariants.{Post as Posts}
 use Rattle.moos_post.specs.declared.value.Pair.{Pair}
 use Rattle.moos_post.specs.declared.value.Post.{Post}
 use Rattle.moos_post.specs.History.{post_of, posts_of_call}
-use Rattle.moos_db.specs.Hearers.{AreNoted, HaveLetterRoom}
+use Rattle.moos_db.specs.Subscriptions.{AreNoted, HaveLetterRoom}
 use Rattle.moos_db.proofs.posting.prepare_entry.Goals as goal
 
 -- the variables of a batch's posts, and how many these are

@@ -4,7 +4,7 @@ use Rattle.std.proofs.lemmas.Option.{same_Some, slice_get-get_or}
 use Rattle.moos_mail.specs.Mailboxes.{is_one_of}
 use Rattle.moos_post.specs.History.{posts_of}
 use Rattle.moos_db.specs.Clients.{ClientState}
-use Rattle.moos_db.specs.Hearers.{AreKeptAs, mailed_if, with_inbox}
+use Rattle.moos_db.specs.Subscriptions.{AreKeptAs, mailed_if, with_inbox}
 use Rattle.moos_db.specs.Registering.{catch_number}
 use Rattle.moos_db.proofs.Caught.{catch-mailed, catch-noted, catch-one}
 use Rattle.moos_db.proofs.Changes.{set-at}

@@ -4,7 +4,7 @@ use Rattle.std.proofs.lemmas.Option.{slice_get-get_or}
 use Rattle.moos_mail.proofs.Lists.{found-below}
 use Rattle.moos_post.specs.History.{posts_of}
 use Rattle.moos_db.specs.Clients.{ClientState}
-use Rattle.moos_db.specs.Hearers.{AreKeptAs, with_inbox}
+use Rattle.moos_db.specs.Subscriptions.{AreKeptAs, with_inbox}
 use Rattle.moos_db.specs.Registering.{catch_number}
 use Rattle.moos_db.proofs.Caught.{catch-next}
 use Rattle.moos_db.proofs.Changes.{all-same}

@@ -3,7 +3,7 @@ use Rattle.std.proofs.Common.{◌≡◌, ◌+◌, ◌≤◌, ℕ, Some, fold, le
 use Rattle.moos_post.specs.Delivery.{Inbox}
 use Rattle.moos_post.specs.History.{posts_of}
 use Rattle.moos_db.specs.Clients.{ClientState}
-use Rattle.moos_db.specs.Hearers.{AreKeptAs, AreNoted, with_inbox}
+use Rattle.moos_db.specs.Subscriptions.{AreKeptAs, AreNoted, with_inbox}
 use Rattle.moos_db.specs.Registering.{catch_number, StandsAt}
 use Rattle.moos_db.proofs.registering.catch_up.Given as goal
 

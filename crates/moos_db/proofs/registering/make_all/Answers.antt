@@ -2,7 +2,7 @@ use Rattle.std.proofs.Common.{◌≡◌, ◌∙◌, ◌≤◌, ◌+◌, ◌∷�
 use Rattle.std.specs.List.{All}
 use Rattle.moos_mail.proofs.Lists.{found-below, length-push}
 use Rattle.moos_db.specs.Clients.{ClientState}
-use Rattle.moos_db.specs.Hearers.{AreKeptAs, with_lives}
+use Rattle.moos_db.specs.Subscriptions.{AreKeptAs, with_lives}
 use Rattle.moos_db.specs.Registering.{AreStill, IsPrepared, PreparedState, with_prepared}
 use Rattle.moos_db.proofs.AfterRegistering.{all-middle}
 use Rattle.moos_db.proofs.Changes.{all-same}

@@ -2,7 +2,7 @@
 use Rattle.std.proofs.Common.{◌≡◌, ◌++◌, ℕ, List, fold, length}
 use Rattle.moos_post.specs.declared.value.Post.{Post}
 use Rattle.moos_post.specs.Delivery.{Inbox}
-use Rattle.moos_db.specs.Hearers.{AreKeptAs, with_lives}
+use Rattle.moos_db.specs.Subscriptions.{AreKeptAs, with_lives}
 use Rattle.moos_db.specs.Registering.{AreStill, with_prepared}
 use Rattle.moos_db.proofs.registering.make_all.Given as goal
 

@@ -7,8 +7,8 @@ use Rattle.moos_post.specs.declared.value.Post.{Post}
 use Rattle.moos_post.specs.Delivery.{Inbox}
 use Rattle.moos_post.specs.History.{History, posts_of}
 use Rattle.moos_db.specs.Clients.{ClientState}
-use Rattle.moos_db.specs.Hearers.{AreKeptAs, AreNoted, VariableState, with_inbox, with_lives}
-use Rattle.moos_db.specs.Places.{AreKept, inboxes_after, Journal}
+use Rattle.moos_db.specs.Subscriptions.{AreKeptAs, AreNoted, VariableState, with_inbox, with_lives}
+use Rattle.moos_db.specs.Places.{AreKept, inboxes_after, LogState}
 use Rattle.moos_db.specs.Registering.{IsStill, PreparedState, StandsAt, catch_number, latest_prepared, variable_names, prepared_of, with_prepared}
 use Rattle.moos_db.proofs.AfterCalls.{AreKept-room, no-posts}
 use Rattle.moos_db.proofs.AfterRegistering.{roomier-names}
@@ -39,7 +39,7 @@ returns-in_err-append-clause-kept c =
     let one : ClientState = c.index_mut.result.now in
     let below : c.args.client < length states = omega (arith, c.requires.within, c.requires.kept.each) in
     let here : slice_get states c.args.client ≡ Some one = slice_get-get_or states c.args.client one below ∙ ap (λ x. Some x) (sym c.index_mut.ensures.value) in
-    subst (λ (log : Journal). AreKept c.args.names.now log.entries c.prepare_all.new.variables (slice_set states c.args.client c.make_room.new.kept)) (sym c.in_err-append.ensures.same)
+    subst (λ (log : LogState). AreKept c.args.names.now log.entries c.prepare_all.new.variables (slice_set states c.args.client c.make_room.new.kept)) (sym c.in_err-append.ensures.same)
     (AreKept-room c.args.names.now c.args.log.now.entries c.args.client c.prepare_all.new.variables states one c.make_room.new.kept here c.make_room.ensures.same
     (AreKept-roomier c.args.names.now c.args.log.now.entries c.args.variables.now c.prepare_all.new.variables states c.prepare_all.ensures.roomier c.requires.kept))
 

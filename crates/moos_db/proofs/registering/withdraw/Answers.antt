@@ -3,7 +3,7 @@ use Rattle.std.proofs.lemmas.List.{set-get_or}
 use Rattle.std.proofs.lemmas.Option.{slice_get-get_or}
 use Rattle.moos_post.specs.Delivery.{without_patterns}
 use Rattle.moos_db.specs.Clients.{ClientState, has_registration}
-use Rattle.moos_db.specs.Hearers.{AreKeptAs, with_lives}
+use Rattle.moos_db.specs.Subscriptions.{AreKeptAs, with_lives}
 use Rattle.moos_db.proofs.Withdrawing.{AreKeptAs-none, AreKeptAs-withdrawn, AreStill-withdrawn}
 use Rattle.moos_db.proofs.registering.withdraw.Goals as goal
 

@@ -8,5 +8,5 @@ invariant-loop-number l = record {
   next : (goal.iterator-loop-number).can_next l.number-iterator;
   finite : (goal.iterator-loop-number).is_finite l.number-iterator;
   added : AreEachAt (IsAddedTo l.yielded) l.fn.all.items l.all.items;
-  rest : l.yielded ++ l.number-iterator.rest.items ≡ l.fn.hearers.items;
+  rest : l.yielded ++ l.number-iterator.rest.items ≡ l.fn.subscriptions.items;
 }

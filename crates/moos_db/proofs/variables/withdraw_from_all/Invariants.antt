@@ -1,6 +1,6 @@
 -- Of the variables so far each is withdrawn from, and the others are as before.
 use Rattle.std.proofs.Common.{◌≡◌, ◌<◌, ◌≤◌, ℕ, Some, length, slice_get}
-use Rattle.moos_db.specs.Hearers.{VariableState}
+use Rattle.moos_db.specs.Subscriptions.{VariableState}
 use Rattle.moos_db.specs.Withdrawing.{IsWithdrawn}
 use Rattle.moos_db.proofs.variables.withdraw_from_all.Given as goal
 

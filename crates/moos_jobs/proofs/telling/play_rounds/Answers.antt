@@ -1,6 +1,6 @@
 -- The run that is told has the order, the script, the helm and the names that were given.
 use Rattle.std.proofs.Common.{◌∙◌, ◌++◌, ap, append-nil, inl, refl, sym}
-use Rattle.moos_play.specs.Lawful.{names_with, steering_with}
+use Rattle.moos_play.specs.Lawful.{names_with, helm_setup_with}
 use Rattle.command_line.specs.Endings.{sinking}
 use Rattle.moos_jobs.specs.Telling.{IsOfLawful}
 use Rattle.moos_telling.specs.Telling.{Tells}
@@ -11,7 +11,7 @@ pub tell-requires-clause-named : goal.tell-requires-clause-named
 tell-requires-clause-named g c κs lives =
     let made = c.in-Ok.ensures in
     made.names ∙ ap (λ further. names_with c.args.script.now c.args.helm ++ further) c.new.ensures ∙ append-nil (names_with c.args.script.now c.args.helm)
-    ∙ named_with c.args.script.now (steering_with c.args.script.now) c.args.helm ∙ (λ i. names_with (sym made.script i) (sym made.helm i))
+    ∙ named_with c.args.script.now (helm_setup_with c.args.script.now) c.args.helm ∙ (λ i. names_with (sym made.script i) (sym made.helm i))
 
 pub returns-in-Ok : goal.returns-in-Ok
 returns-in-Ok g c =

@@ -37,8 +37,8 @@ returns-clause-iterations g c =
     let run = c.play_out-played.new.run in
     let ready = is_ready c.play.inside.run c.play.inside.whole c.in_ok-play.play c.play.view_is c.play.invariant made.between in
     let none = none_ticked c.play.inside.run ready (subst (λ (play : Playing). history_in play ≡ opening (helm_in play)) (sym c.play.view_is) made.begun) in
-    let all : length (iterations_in run.steersman) ≡ ticks_in run.steersman = omega (arith, out.told, none, ap length ready.told) in
-    c.close-ran.ensures.iterations ∙ made_kept run.lock.base _ run.first.seat.seen run.steersman out.at_play.under.steered all
+    let all : length (iterations_in run.helm_client) ≡ ticks_in run.helm_client = omega (arith, out.told, none, ap length ready.told) in
+    c.close-ran.ensures.iterations ∙ made_kept run.lock.base _ run.first.seat.seen run.helm_client out.at_play.under.steered all
     ∙ (over_as (shown_by c.play.inside.run) (shown_by run) c.args.order c.args.script.now c.args.helm c.close-ran.result.db.names c.close-ran.result.db.history (over_now run true out.at_play out.over) out.same
     (ap order_played c.play.view_is ∙ made.order) (ap script_played c.play.view_is ∙ made.script) (ap helm_in c.play.view_is ∙ made.helm)
     (ap clients_in c.play.view_is ∙ made.names ∙ ap (λ further. names_with c.args.script.now c.args.helm ++ further) c.new.ensures ∙ append-nil (names_with c.args.script.now c.args.helm)) (sym c.close-ran.ensures.names) (sym c.close-ran.ensures.history)).1

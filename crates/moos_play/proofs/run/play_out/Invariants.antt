@@ -9,7 +9,7 @@ invariant-loop g l = record {
   at_play : IsAtPlay l.run;
   seated : KeepsSeats l.fn.run l.run;
   same : GoesOnWith (shown_by l.fn.run) (shown_by l.run);
-  told : KeepsEach l.fn.run.steersman l.run.steersman;
+  told : KeepsEach l.fn.run.helm_client l.run.helm_client;
 }
 
 abbrev pub decreases-loop : goal.decreases-loop

@@ -1,7 +1,7 @@
 -- The play that is told has the script, the helm and the names that were given, and the vehicle's clients may come to it.
 use Rattle.std.proofs.Common.{◌≡◌, ◌∙◌, ◌++◌, ◌∷◌, [], ap, arith, codes, inl, length, length-append, refl, sym}
 use Rattle.std.specs.Prelude.{Some}
-use Rattle.moos_play.specs.Lawful.{names_with, opening, Steering, steering_with}
+use Rattle.moos_play.specs.Lawful.{names_with, opening, HelmSetup, helm_setup_with}
 use Rattle.moos_play.specs.Plays.{script_played}
 use Rattle.script_reader.specs.declared.script.Script.{Script}
 use Rattle.moos_simulate.specs.Simulated.{vehicle_names}
@@ -28,7 +28,7 @@ returns-in_default-make g c = λ task of. inl (record { taken = refl; faults = r
 pub launch-requires : goal.launch-requires
 launch-requires g c =
     let made = c.in-Ok-make.ensures in
-    let helm : Steering = steering_with c.args.script.now c.args.helm in
+    let helm : HelmSetup = helm_setup_with c.args.script.now c.args.helm in
     let many : length (script_played c.in-Ok-make.play).names ≡ length c.args.script.now.names = ap (λ (script : Script). length script.names) made.script in
     record {
       helm = helm;

@@ -3,7 +3,7 @@ use Rattle.std.specs.Prelude.{is_some}
 use Rattle.helm_cond.specs.Flat.{names_among}
 use Rattle.helm_cond.specs.Grammar.{with_symbol, symbols_of, tokens_of, condition_said}
 use Rattle.helm_cond.specs.Levels.{accepts}
-use Rattle.helm_cond.specs.Told.{condition_in}
+use Rattle.helm_cond.specs.KeptConditions.{condition_in}
 use Rattle.helm_cond.proofs.Flat.{among_more}
 use Rattle.helm_cond.proofs.Whole.{no_place, not_whole, is_said, whole, next_place, next_symbols, one_name}
 use Rattle.helm_cond.proofs.cond.Cond.read.Goals as goal

@@ -1,8 +1,8 @@
 use Rattle.std.proofs.Common.{List, [], refl, subst, sym}
 use Rattle.bhv_file.specs.declared.file.Block.{Block}
-use Rattle.helm_core.specs.Helms.{IsOutlook}
+use Rattle.helm_core.specs.Helms.{IsHelmView}
 use Rattle.helm_core.specs.Lists.{first_list}
-use Rattle.helm_core.specs.Standings.{IsCrewOf}
+use Rattle.helm_core.specs.Standings.{IsBehaviorListOf}
 use Rattle.helm_core.proofs.Rooted.{rooted_behind}
 use Rattle.helm_core.proofs.Turning.{all_may_step}
 use Rattle.helm_core.proofs.Ticking.{same_plan}
@@ -15,12 +15,12 @@ pub make-requires-clause-may_step : goal.make-requires-clause-may_step
 make-requires-clause-may_step c = all_may_step c.args.mission.now.domain [] c.args.file.blocks c.requires.file.blocks c.requires.served
 
 pub returns-clause-plan : goal.returns-clause-plan
-returns-clause-plan c = same_plan _ c.args.file.opening _ _ _ _ _ c.in_ok-crew.ensures.axes c.make-modes.ensures c.in_ok-crew.ensures.blocks
+returns-clause-plan c = same_plan _ c.args.file.opening _ _ _ _ _ c.in_ok-behavior_list.ensures.axes c.make-modes.ensures c.in_ok-behavior_list.ensures.blocks
 
 pub returns-clause-stands : goal.returns-clause-stands
 returns-clause-stands c = record {
   clock = refl;
-  outlook = subst (λ decls. IsOutlook decls [] c.in_ok-outlook.outlook) refl c.in_ok-outlook.ensures;
-  crew = subst (λ (blocks : List Block). IsCrewOf 0 (first_list blocks) c.in_ok-crew.crew) (sym c.in_ok-crew.ensures.blocks) c.in_ok-crew.ensures.stands;
+  helm_view = subst (λ decls. IsHelmView decls [] c.in_ok-helm_view.helm_view) refl c.in_ok-helm_view.ensures;
+  behavior_list = subst (λ (blocks : List Block). IsBehaviorListOf 0 (first_list blocks) c.in_ok-behavior_list.behavior_list) (sym c.in_ok-behavior_list.ensures.blocks) c.in_ok-behavior_list.ensures.stands;
   allstop = refl;
 }

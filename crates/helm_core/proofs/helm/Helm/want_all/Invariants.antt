@@ -9,4 +9,4 @@ invariant-loop-decl l = fold with_wanted l.wanted (flat_map decl_names (drop l.d
 abbrev pub invariant-loop-block : goal.invariant-loop-block
 invariant-loop-block l =
     fold with_wanted l.wanted (flat_map block_names (drop l.block-index l.block-items))
-    ≡ fold with_wanted l.fn.wanted (flat_map decl_names l.self.modes ++ flat_map block_names l.self.crew.blocks)
+    ≡ fold with_wanted l.fn.wanted (flat_map decl_names l.self.modes ++ flat_map block_names l.self.behavior_list.blocks)

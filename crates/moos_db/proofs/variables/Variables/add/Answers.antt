@@ -1,18 +1,18 @@
 use Rattle.std.proofs.Common.{◌≡◌, ◌∙◌, ◌++◌, ◌∷◌, [], List, None, ap, length, option_map, refl, rules, sym, subst, vec_capacity, vec_len, ◌-◌}
-use Rattle.moos_db.specs.Hearers.{AreNumbers, IsAdded, VariableState, VariablesState, name_at}
+use Rattle.moos_db.specs.Subscriptions.{AreNumbers, IsAdded, VariableState, VariablesState, name_at}
 use Rattle.moos_db.specs.Tables.{number_of, with_row}
 use Rattle.moos_db.proofs.Adding.{numbers-added}
 use Rattle.moos_db.proofs.Standing.{slice_get-seam}
 use Rattle.moos_db.proofs.variables.Variables.add.Goals as goal
 
 -- what was pushed stands behind the others
-pushed-is : (all reserved pushed : List VariableState) (one other : VariableState) → pushed ≡ reserved ++ one ∷ [] → reserved ≡ all → one.name ≡ other.name → one.latest ≡ other.latest → one.hearers ≡ other.hearers → one.room ≡ other.room → pushed ≡ all ++ other ∷ []
-pushed-is all reserved pushed one other is same name latest hearers room =
-    is ∙ (λ i. same i ++ record { name = name i; latest = latest i; hearers = hearers i; room = room i } ∷ [])
+pushed-is : (all reserved pushed : List VariableState) (one other : VariableState) → pushed ≡ reserved ++ one ∷ [] → reserved ≡ all → one.name ≡ other.name → one.latest ≡ other.latest → one.subscriptions ≡ other.subscriptions → one.room ≡ other.room → pushed ≡ all ++ other ∷ []
+pushed-is all reserved pushed one other is same name latest subscriptions room =
+    is ∙ (λ i. same i ++ record { name = name i; latest = latest i; subscriptions = subscriptions i; room = room i } ∷ [])
 
 pub invariant_of-self-2 : goal.invariant_of-self-2
 invariant_of-self-2 c =
-    let new : VariableState = record { name = c.args.var.now; latest = None; hearers = c.in_ok-hearers.hearers.items; room = vec_capacity c.in_ok-hearers.hearers - vec_len c.in_ok-hearers.hearers } in
+    let new : VariableState = record { name = c.args.var.now; latest = None; subscriptions = c.in_ok-subscriptions.subscriptions.items; room = vec_capacity c.in_ok-subscriptions.subscriptions - vec_len c.in_ok-subscriptions.subscriptions } in
     let before : VariablesState = record { all = c.self.inside.all.items; numbers = c.self.inside.numbers; noted = c.self.inside.noted.items } in
     let counted : vec_len c.self.inside.all ≡ length before.all = search rules in
     let unknown : number_of c.args.var.now before.numbers ≡ None = subst (λ variables. number_of c.args.var.now variables.numbers ≡ None) (sym c.self.view_is) c.requires.unknown in
@@ -23,7 +23,7 @@ invariant_of-self-2 c =
 
 pub returns-clause-number : goal.returns-clause-number
 returns-clause-number c =
-    let new : VariableState = record { name = c.args.var.now; latest = None; hearers = c.in_ok-hearers.hearers.items; room = vec_capacity c.in_ok-hearers.hearers - vec_len c.in_ok-hearers.hearers } in
+    let new : VariableState = record { name = c.args.var.now; latest = None; subscriptions = c.in_ok-subscriptions.subscriptions.items; room = vec_capacity c.in_ok-subscriptions.subscriptions - vec_len c.in_ok-subscriptions.subscriptions } in
     let all : List VariableState = c.self.inside.all.items in
     let counted : vec_len c.self.inside.all ≡ length all = search rules in
     let all_is : c.push_reserved.new.self.items ≡ all ++ new ∷ [] =
@@ -33,7 +33,7 @@ returns-clause-number c =
 
 pub returns-clause-added : goal.returns-clause-added
 returns-clause-added c =
-    let new : VariableState = record { name = c.args.var.now; latest = None; hearers = c.in_ok-hearers.hearers.items; room = vec_capacity c.in_ok-hearers.hearers - vec_len c.in_ok-hearers.hearers } in
+    let new : VariableState = record { name = c.args.var.now; latest = None; subscriptions = c.in_ok-subscriptions.subscriptions.items; room = vec_capacity c.in_ok-subscriptions.subscriptions - vec_len c.in_ok-subscriptions.subscriptions } in
     let before : VariablesState = record { all = c.self.inside.all.items; numbers = c.self.inside.numbers; noted = c.self.inside.noted.items } in
     let counted : vec_len c.self.inside.all ≡ length before.all = search rules in
     let unknown : number_of c.args.var.now before.numbers ≡ None = subst (λ variables. number_of c.args.var.now variables.numbers ≡ None) (sym c.self.view_is) c.requires.unknown in
@@ -41,10 +41,10 @@ returns-clause-added c =
     pushed-is before.all c.reserve.new.self.items c.push_reserved.new.self.items _ new c.push_reserved.ensures.items c.reserve.ensures.items c.in_ok-name.ensures refl refl refl in
     let numbers_are : c.set.new.self ≡ with_row c.args.var.now (length before.all) before.numbers = c.in_ok-set.ensures.ok ∙ ap (λ n. with_row c.args.var.now n before.numbers) (c.len-number.ensures ∙ counted) in
     subst (λ was. IsAdded c.args.clients.now c.args.var.now was (record { all = c.push_reserved.new.self.items; numbers = c.set.new.self; noted = c.self.inside.noted.items })) c.self.view_is (record {
-      hearers = new.hearers;
+      subscriptions = new.subscriptions;
       room = new.room;
-      each = c.in_ok-hearers.ensures.each;
-      within = c.in_ok-hearers.ensures.within;
+      each = c.in_ok-subscriptions.ensures.each;
+      within = c.in_ok-subscriptions.ensures.within;
       all = all_is;
       numbers = numbers_are;
       noted = refl;

@@ -1,6 +1,6 @@
 use Rattle.std.proofs.Common.{◌≡◌, ◌∙◌, ◌<◌, ℕ, ap, length, refl, slice_get, slice_set, Some, subst, sym}
 use Rattle.std.proofs.lemmas.Option.{get_or_from_slice_get, slice_get-get_or}
-use Rattle.moos_db.specs.Hearers.{VariableState, VariablesState}
+use Rattle.moos_db.specs.Subscriptions.{VariableState, VariablesState}
 use Rattle.moos_db.specs.Registering.{IsCaught}
 use Rattle.moos_db.proofs.AfterRegistering.{noted-below, numbers-kept, set-names}
 use Rattle.moos_db.proofs.variables.Variables.catch_up.Goals as goal

@@ -1,7 +1,7 @@
 use Rattle.std.proofs.Common.{◌≡◌, ◌∙◌, ◌<◌, Some, ap, length, refl, set, slice_get, sym, subst, arith, vec_capacity, vec_len, ◌-◌}
 use Rattle.std.specs.List.{All}
 use Rattle.std.proofs.lemmas.Option.{slice_get_read}
-use Rattle.moos_db.specs.Hearers.{HasRoom, IsPosted, VariableState, VariablesState}
+use Rattle.moos_db.specs.Subscriptions.{HasRoom, IsPosted, VariableState, VariablesState}
 use Rattle.moos_db.proofs.AfterRegistering.{numbers-kept, set-names}
 use Rattle.moos_db.proofs.variables.Variables.mail.Goals as goal
 
@@ -13,10 +13,10 @@ mail_to-requires-clause-room c =
     let found : slice_get inside.noted number ≡ Some c.index.result.now = slice_get_read inside.noted (length inside.noted) number c.index.result.now refl within c.index.ensures in
     let numbered : c.index.result.now < length inside.all = subst (λ n. n < length inside.all) (sym c.index.ensures) (c.self.invariant.noted number c.index.result.now within) in
     let there : slice_get inside.all c.index.result.now ≡ Some c.index_mut-variable.result.now = slice_get_read inside.all (length inside.all) c.index.result.now c.index_mut-variable.result.now refl numbered c.index_mut-variable.ensures.value in
-    let room : All (HasRoom c.args.clients.now.items 1) c.index_mut-variable.result.now.hearers =
+    let room : All (HasRoom c.args.clients.now.items 1) c.index_mut-variable.result.now.subscriptions =
     c.requires.room number c.index.result.now c.index_mut-variable.result.now (omega arith) (ap (λ (variables : VariablesState). slice_get variables.noted number) (sym c.self.view_is) ∙ found)
     (ap (λ (variables : VariablesState). slice_get variables.all c.index.result.now) (sym c.self.view_is) ∙ there) in
-    subst (λ (variable : VariableState). All (HasRoom c.args.clients.now.items 1) variable.hearers) (sym c.variable.view_is) room
+    subst (λ (variable : VariableState). All (HasRoom c.args.clients.now.items 1) variable.subscriptions) (sym c.variable.view_is) room
 
 pub invariant_of-self : goal.invariant_of-self
 invariant_of-self c =
@@ -35,9 +35,9 @@ returns c =
     let found : slice_get inside.noted number ≡ Some c.index.result.now = slice_get_read inside.noted (length inside.noted) number c.index.result.now refl within c.index.ensures in
     let numbered : c.index.result.now < length inside.all = subst (λ n. n < length inside.all) (sym c.index.ensures) (c.self.invariant.noted number c.index.result.now within) in
     let there : slice_get inside.all c.index.result.now ≡ Some c.index_mut-variable.result.now = slice_get_read inside.all (length inside.all) c.index.result.now c.index_mut-variable.result.now refl numbered c.index_mut-variable.ensures.value in
-    let variable : VariableState = record { name = c.variable.inside.name; latest = c.variable.inside.latest; hearers = c.variable.inside.hearers.items; room = vec_capacity c.variable.inside.hearers - vec_len c.variable.inside.hearers } in
-    let room_left = vec_capacity c.mail_to.new.hearers - vec_len c.mail_to.new.hearers in
-    let after : VariablesState = record inside { all = set inside.all c.index.result.now (record variable { latest = Some number; hearers = c.mail_to.new.hearers.items; room = room_left }) } in
+    let variable : VariableState = record { name = c.variable.inside.name; latest = c.variable.inside.latest; subscriptions = c.variable.inside.subscriptions.items; room = vec_capacity c.variable.inside.subscriptions - vec_len c.variable.inside.subscriptions } in
+    let room_left = vec_capacity c.mail_to.new.subscriptions - vec_len c.mail_to.new.subscriptions in
+    let after : VariablesState = record inside { all = set inside.all c.index.result.now (record variable { latest = Some number; subscriptions = c.mail_to.new.subscriptions.items; room = room_left }) } in
     subst (λ before. IsPosted number c.args.stamp c.args.source.now before after c.args.clients.now.items c.mail_to.new.clients.items) c.self.view_is (record {
       at = c.index.result.now;
       variable = variable;
@@ -45,7 +45,7 @@ returns c =
       found = found;
       room = room_left;
       there = there ∙ ap (λ one. Some one) (sym c.variable.view_is);
-      all = ap (λ hearers. set inside.all c.index.result.now (record variable { latest = Some number; hearers = hearers; room = room_left })) c.mail_to.ensures.heard;
+      all = ap (λ subscriptions. set inside.all c.index.result.now (record variable { latest = Some number; subscriptions = subscriptions; room = room_left })) c.mail_to.ensures.heard;
       numbers = refl;
       noted = refl;
       mailed = c.mail_to.ensures.mailed;

@@ -1,6 +1,6 @@
 use Rattle.std.proofs.Common.{◌≡◌, ◌<◌, ◌∙◌, Some, ap, length, slice_get, subst, sym}
 use Rattle.std.proofs.lemmas.Option.{slice_get-get_or}
-use Rattle.moos_db.specs.Hearers.{AreNoted, VariableState, VariablesState}
+use Rattle.moos_db.specs.Subscriptions.{AreNoted, VariableState, VariablesState}
 use Rattle.moos_db.proofs.Changes.{name-noted}
 use Rattle.moos_db.proofs.variables.Variables.name.Goals as goal
 

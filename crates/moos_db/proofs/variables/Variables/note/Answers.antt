@@ -1,5 +1,5 @@
 use Rattle.std.proofs.Common.{◌∙◌, ◌++◌, ◌∷◌, [], ap, length, sym, subst}
-use Rattle.moos_db.specs.Hearers.{HearBelow, AreNoted, AreNumbers, AreReady, VariablesState, name_at}
+use Rattle.moos_db.specs.Subscriptions.{HearBelow, AreNoted, AreNumbers, AreReady, VariablesState, name_at}
 use Rattle.moos_db.proofs.Adding.{may-add-below, may-add-noted, may-add-ready, noted-more, numbers-noted, ready-noted}
 use Rattle.moos_db.proofs.variables.Variables.note.Goals as goal
 

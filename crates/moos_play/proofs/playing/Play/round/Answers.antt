@@ -156,7 +156,7 @@ pub next_stamp-stamp-requires : goal.next_stamp-stamp-requires
 next_stamp-stamp-requires g c =
     let run = c.self.inside.run in
     let ready = is_ready run c.self.inside.whole c.args.self.now c.self.view_is c.self.invariant c.requires.between in
-    some_period run.script.now.stop run.steersman ready.at_play.period
+    some_period run.script.now.stop run.helm_client ready.at_play.period
 
 pub count_entries-from-requires : goal.count_entries-from-requires
 count_entries-from-requires g c = has_seats c.self.inside.run c.self.inside.whole c.args.self.now c.self.view_is c.self.invariant c.requires.between.seated

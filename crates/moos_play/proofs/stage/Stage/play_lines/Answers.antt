@@ -41,7 +41,7 @@ returns-clause-stepped g c =
       front = tt;
       at_play = record {
         valid = c.requires.at_play.valid;
-        under = lines_next play.order script play.lock c.requires.at_play.valid.lines play.steersman play.from c.args.to (Ok c.in_ok-play_step.field-0) play.first.seat after c.requires.at_play.under made.gathered
+        under = lines_next play.order script play.lock c.requires.at_play.valid.lines play.helm_client play.from c.args.to (Ok c.in_ok-play_step.field-0) play.first.seat after c.requires.at_play.under made.gathered
             (subst (λ lines. GoesOn (IsPlayed (take (c.args.to - play.from) (drop play.from lines)) (Ok c.in_ok-play_step.field-0)) play.first.seat after) c.all.ensures made.goes_on) refl (omega (arith, c.requires.some))
             (may_within play.order play c.args.to c.requires.due) (may_come play.order play c.args.to c.requires.due c.requires.some);
         calls = as_many play.calls.len play.calls.items c.play_step.new.calls (c.play_step.auto.calls ∙ ap length c.as_mut_slice-calls.ensures.value) (search rules) ∙ (search rules);
@@ -57,7 +57,7 @@ returns-in_err-play_step-clause-stepped g c =
     let made = c.in_err-play_step.ensures in
     let after = c.play_step.new.first.seat in
     let cut =
-    lines_cut play.order play.script.now play.lock c.requires.at_play.valid.lines play.steersman play.from c.args.to c.all.result.now play.first.seat after c.requires.at_play.under c.requires.at_play.period c.all.ensures made.goes_on (omega (arith, c.requires.some))
+    lines_cut play.order play.script.now play.lock c.requires.at_play.valid.lines play.helm_client play.from c.args.to c.all.result.now play.first.seat after c.requires.at_play.under c.requires.at_play.period c.all.ensures made.goes_on (omega (arith, c.requires.some))
     (may_come play.order play c.args.to c.requires.due c.requires.some) in
     record {
       same = record { script = refl; order = refl; names = refl; helm = refl };

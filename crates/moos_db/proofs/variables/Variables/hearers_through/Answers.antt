@@ -1,8 +1,0 @@
-use Rattle.std.proofs.Common.{refl}
-use Rattle.moos_db.proofs.AfterRegistering.{numbers-kept, roomier-names}
-use Rattle.moos_db.proofs.variables.Variables.hearers_through.Goals as goal
-
-pub invariant_of-self : goal.invariant_of-self
-invariant_of-self c =
-    numbers-kept (record { all = c.self.inside.all.items; numbers = c.self.inside.numbers; noted = c.self.inside.noted.items }) _
-    (roomier-names c.self.inside.all.items c.hearers_among.new.all.items c.hearers_among.ensures.roomier) refl refl c.self.invariant

@@ -1,0 +1,191 @@
+-- Who hears a variable: of each client the live registrations whose pattern matches it, each with the stamp of the last post of the
+-- variable that came through.
+use Rattle.std.specs.Prelude.{◌≡◌, ◌<◌, ◌≤◌, ◌+◌, ◌⊎◌, ℕ, Bool, ◌&&◌, ◌==◌, if◌then◌else◌, List, [], ◌∷◌, ◌++◌, length, map, filter, Option, None, Some, option_map, unwrap_or, bytes_eq, slice_get, slice_set, take}
+use Rattle.std.specs.List.{All, list_any}
+use Rattle.moos_post.specs.declared.registration.Reg.{Reg}
+use Rattle.moos_post.specs.declared.value.Post.{Post}
+use Rattle.moos_post.specs.Delivery.{Inbox, is_past, last_stamp, Live}
+use Rattle.moos_post.specs.Patterns.{matches}
+use Rattle.moos_db.specs.declared.registration.Registration.{Registration}
+use Rattle.moos_db.specs.Clients.{AreClients, ClientState, mailed_once}
+use Rattle.moos_db.specs.Tables.{Row, number_of, rows_of, with_row}
+
+-- a live registration of a client that hears a variable, the entry that made it, and the stamp of the last post of the variable that
+-- came through it
+pub record SubscriptionNow : Type 0 where
+  pub client : ℕ
+  pub reg : Reg
+  pub made : ℕ
+  pub last : Option ℕ
+
+-- a variable, the number of its latest post, if there is one, who hears it, and how many more can without memory
+pub record VariableState : Type 0 where
+  pub name : List ℕ
+  pub latest : Option ℕ
+  pub subscriptions : List SubscriptionNow
+  pub room : ℕ
+
+-- the client hears the variable through this registration
+abbrev pub subscription_of : ℕ → List ℕ → Live → SubscriptionNow
+subscription_of client var live = record { client = client; reg = live.reg; made = live.made; last = last_stamp var live.came }
+
+-- through which of these registrations the client hears the variable, in their order
+abbrev pub subscriptions_of : ℕ → List ℕ → List Live → List SubscriptionNow
+subscriptions_of client var lives = map (subscription_of client var) (filter (λ live. matches live.reg.var var) lives)
+
+-- those of these that are the client's, in their order
+abbrev pub of_client : ℕ → List SubscriptionNow → List SubscriptionNow
+of_client client subscriptions = filter (λ subscription. subscription.client == client) subscriptions
+
+-- a post of this stamp from the source is due
+abbrev pub hears_due : ℕ → List ℕ → SubscriptionNow → Bool
+hears_due stamp source subscription = matches subscription.reg.source source && is_past subscription.last stamp subscription.reg.interval
+
+-- after such a post, which comes through if it is due
+abbrev pub after_hearing : ℕ → List ℕ → SubscriptionNow → SubscriptionNow
+after_hearing stamp source subscription = if hears_due stamp source subscription then record subscription { last = Some stamp } else subscription
+
+-- it is of the client and was made at this entry, and selects a post from the source
+abbrev pub is_new_at : ℕ → ℕ → List ℕ → SubscriptionNow → Bool
+is_new_at client made source subscription = subscription.client == client && subscription.made == made && matches subscription.reg.source source
+
+-- after a post of this stamp that catches up, which comes through if that is so
+abbrev pub caught_at : ℕ → ℕ → ℕ → List ℕ → SubscriptionNow → SubscriptionNow
+caught_at client made stamp source subscription = if is_new_at client made source subscription then record subscription { last = Some stamp } else subscription
+
+-- it is the client's registration with these patterns
+abbrev pub is_registration : ℕ → List ℕ → List ℕ → SubscriptionNow → Bool
+is_registration client var source subscription = subscription.client == client && bytes_eq subscription.reg.var var && bytes_eq subscription.reg.source source
+
+-- a registration that was just made, through which nothing came
+abbrev pub fresh_subscription : ℕ → Registration → SubscriptionNow
+fresh_subscription client live = record { client = client; reg = live.reg; made = live.made; last = None }
+
+-- through which of these registrations, through which nothing of the variable came, the client hears it
+abbrev pub fresh_subscriptions : ℕ → List ℕ → List Registration → List SubscriptionNow
+fresh_subscriptions client var lives = map (fresh_subscription client) (filter (λ live. matches live.reg.var var) lives)
+
+-- the live registrations of the client with this number; none if there is no such client
+abbrev pub lives_at : List ClientState → ℕ → List Registration
+lives_at clients client = unwrap_or (option_map (λ one. one.lives) (slice_get clients client)) []
+
+-- the variables, the table of their numbers, and of each post the number of its variable
+pub record VariablesState : Type 0 where
+  pub all : List VariableState
+  pub numbers : List Row
+  pub noted : List ℕ
+
+-- the variable is heard by each client just as its inbox of the delivery rule says, and by nobody else
+pub record IsHeardBy (clients : ℕ) (inboxes : ℕ → Inbox) (variable : VariableState) : Type 0 where
+  pub each : (client : ℕ) → client < clients → of_client client variable.subscriptions ≡ subscriptions_of client variable.name (inboxes client).lives
+  pub within : All (λ subscription. subscription.client < clients) variable.subscriptions
+
+-- each of these hears as one of so many clients
+abbrev pub HearBelow : ℕ → List VariableState → Type 0
+HearBelow clients variables = All (λ variable. All (λ subscription. subscription.client < clients) variable.subscriptions) variables
+
+-- the name of the variable with this number, if there is one
+abbrev pub name_at : List VariableState → ℕ → Option (List ℕ)
+name_at variables number = option_map (λ variable. variable.name) (slice_get variables number)
+
+-- the table has for each variable its number, and no other number
+pub record IsNumbering (variables : List VariableState) (numbers : List Row) : Type 0 where
+  pub each : (number : ℕ) (variable : VariableState) → slice_get variables number ≡ Some variable → number_of variable.name numbers ≡ Some number
+  pub only : (number : ℕ) (var : List ℕ) → number_of var numbers ≡ Some number → name_at variables number ≡ Some var
+
+-- the numbers of variables that are noted are those of these
+pub record AreNumbers (variables : VariablesState) : Type 0 where
+  pub numbering : IsNumbering variables.all variables.numbers
+  pub noted : All (λ number. number < length variables.all) variables.noted
+
+-- the variables whose numbers are noted are these
+abbrev pub AreNoted : List (List ℕ) → VariablesState → Type 0
+AreNoted vars variables = map (name_at variables.all) variables.noted ≡ map (λ var. Some var) vars
+
+-- of no variable without a number a post came through the registration
+abbrev pub HasKnown : List Row → Live → Type 0
+HasKnown numbers live = (var : List ℕ) → number_of var numbers ≡ None → last_stamp var live.came ≡ None
+
+-- nor through any registration of a client
+abbrev pub AreKnown : ℕ → (ℕ → Inbox) → List Row → Type 0
+AreKnown clients inboxes numbers = (client : ℕ) → client < clients → All (HasKnown numbers) (inboxes client).lives
+
+-- its latest post is that of the variable among these
+abbrev pub HasLatest : List Post → VariableState → Type 0
+HasLatest posts variable = variable.latest ≡ number_of variable.name (rows_of posts)
+
+-- Each variable is heard as the inboxes say, its latest post is that among these, and none came through but of these variables.
+pub record AreHeard (clients : ℕ) (inboxes : ℕ → Inbox) (posts : List Post) (variables : VariablesState) : Type 0 where
+  pub heard : All (IsHeardBy clients inboxes) variables.all
+  pub latest : All (HasLatest posts) variables.all
+  pub known : AreKnown clients inboxes variables.numbers
+
+-- the variables with this one more, which the clients hear by their registrations, through which nothing of it came
+pub record IsAdded (clients : List ClientState) (var : List ℕ) (before after : VariablesState) : Type 0 where
+  pub subscriptions : List SubscriptionNow
+  pub room : ℕ
+  pub each : (client : ℕ) → client < length clients → of_client client subscriptions ≡ fresh_subscriptions client var (lives_at clients client)
+  pub within : All (λ subscription. subscription.client < length clients) subscriptions
+  pub all : after.all ≡ before.all ++ record { name = var; latest = None; subscriptions = subscriptions; room = room } ∷ []
+  pub numbers : after.numbers ≡ with_row var (length before.all) before.numbers
+  pub noted : after.noted ≡ before.noted
+
+-- nothing changed but that a variable was added, or nothing
+abbrev pub MayAdd : List ClientState → List ℕ → VariablesState → VariablesState → Type 0
+MayAdd clients var before after = (after ≡ before) ⊎ ((number_of var before.numbers ≡ None) × IsAdded clients var before after)
+
+-- the clients are the same but for room in their mailboxes
+pub record AreAlike (before after : List ClientState) : Type 0 where
+  pub each : length after ≡ length before
+  pub same : (number : ℕ) (one other : ClientState) → slice_get before number ≡ Some one → slice_get after number ≡ Some other → other ≡ record one { spare = other.spare }
+
+-- so many more can be mailed to the client without memory
+abbrev pub HasRoom : List ClientState → ℕ → SubscriptionNow → Type 0
+HasRoom clients more subscription = (client : ClientState) → slice_get clients subscription.client ≡ Some client → more ≤ client.spare
+
+-- so they can to each who hears one of the posts from this number on
+abbrev pub HaveLetterRoom : List ClientState → VariablesState → ℕ → ℕ → Type 0
+HaveLetterRoom clients variables from more = (post number : ℕ) (variable : VariableState) → from ≤ post → slice_get variables.noted post ≡ Some number →
+    slice_get variables.all number ≡ Some variable → All (HasRoom clients more) variable.subscriptions
+
+-- the client after a post, which is mailed if this says so
+abbrev pub mailed_if : Bool → ℕ → ClientState → ClientState
+mailed_if mails number client = if mails then mailed_once number client else client
+
+-- the clients after the post with this number, of this stamp and from the source, which is mailed to each at one of whose subscriptions it is due
+pub record AreMailed (number stamp : ℕ) (source : List ℕ) (subscriptions : List SubscriptionNow) (before after : List ClientState) : Type 0 where
+  pub each : length after ≡ length before
+  pub mail : (client : ℕ) (one other : ClientState) → slice_get before client ≡ Some one → slice_get after client ≡ Some other →
+      other ≡ record (mailed_if (list_any (hears_due stamp source) (of_client client subscriptions)) number one) { spare = other.spare }
+  pub room : (client : ℕ) (one other : ClientState) → slice_get before client ≡ Some one → slice_get after client ≡ Some other → one.spare ≤ other.spare + 1
+
+-- the clients and who hears the variables are just what the inboxes say, if these are the posts so far
+pub record AreKeptAs (inboxes : ℕ → Inbox) (posts : List Post) (variables : VariablesState) (all : List ClientState) : Type 0 where
+  pub clients : AreClients inboxes all
+  pub heard : AreHeard (length all) inboxes posts variables
+
+-- the inboxes if the client's is changed so
+abbrev pub with_inbox : ℕ → (Inbox → Inbox) → (ℕ → Inbox) → ℕ → Inbox
+with_inbox client change inboxes number = if client == number then change (inboxes number) else inboxes number
+
+-- the inboxes if the client's live registrations are changed so
+abbrev pub with_lives : ℕ → (List Live → List Live) → (ℕ → Inbox) → ℕ → Inbox
+with_lives client change inboxes = with_inbox client (λ inbox. record inbox { lives = change inbox.lives }) inboxes
+
+-- posting: the post with this number, of the variable that is noted for it, came through those who hear it, and was mailed
+pub record IsPosted (number stamp : ℕ) (source : List ℕ) (before after : VariablesState) (clients others : List ClientState) : Type 0 where
+  pub at : ℕ
+  pub variable : VariableState
+  pub numbering : IsNumbering before.all before.numbers
+  pub found : slice_get before.noted number ≡ Some at
+  pub there : slice_get before.all at ≡ Some variable
+  pub room : ℕ
+  pub all : after.all ≡ slice_set before.all at (record variable { latest = Some number; subscriptions = map (after_hearing stamp source) variable.subscriptions; room = room })
+  pub numbers : after.numbers ≡ before.numbers
+  pub noted : after.noted ≡ before.noted
+  pub mailed : AreMailed number stamp source variable.subscriptions clients others
+
+-- all is as the inboxes say, if these are the posts so far, whose variables are noted first
+pub record AreReady (inboxes : ℕ → Inbox) (posts : List Post) (variables : VariablesState) (all : List ClientState) : Type 0 where
+  pub stand : AreKeptAs inboxes posts variables all
+  pub noted : AreNoted (map (λ post. post.var) posts) (record variables { noted = take (length posts) variables.noted })

@@ -1,0 +1,6 @@
+use Rattle.std.proofs.Common.{rules}
+use Rattle.moos_step.proofs.Lines.{played_front}
+use Rattle.moos_step.proofs.player.make_calls.Goals as goal
+
+pub returns-in_err-make_call : goal.returns-in_err-make_call
+returns-in_err-make_call g c = played_front c.args.lines.now c.loop-line.line-index _ _ c.loop-line.seat _ c.loop-line.invariant.made c.in_err-make_call.ensures.none (search rules)

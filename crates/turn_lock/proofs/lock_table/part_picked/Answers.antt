@@ -1,0 +1,11 @@
+use Rattle.std.proofs.Common.{arith}
+use Rattle.turn_lock.proofs.Splitting.{parts}
+use Rattle.turn_lock.proofs.lock_table.part_picked.Goals as goal
+
+pub split_seat-requires : goal.split_seat-requires
+split_seat-requires g c =
+    let base = g.S.Journaled.base c.args.table.now.key.0.value in (
+      c.requires.table.0,
+      omega (arith, c.requires.table.1),
+      parts g.S.Journaled.base g.S.Journaled.history g.S.Journaled.number base c.args.seat.now.id g.N.Picked.picked c.args.seat.now.me.0 c.requires.free.0 c.requires.free.1 c.requires.first.0 c.requires.first.1,
+    )
