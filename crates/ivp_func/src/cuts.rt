@@ -51,7 +51,7 @@ fn most_runs(axes: u32) -> usize
     }
 }
 
-/// How many parts of so many places there are up to the last one.
+/// How many parts of `places` places there are up to place `last`.
 fn parts_to(last: u32, places: usize) -> usize
     requires { 0 < places }
     ensures parts { result ≡ parts_to last places }
@@ -78,7 +78,7 @@ impl Cuts {
         Cuts::of(domain.axes(), domain.whole().high)
     }
 
-    /// The cells of so many axes up to these last places.
+    /// The cells of `axes` axes up to these last places.
     pub(crate) fn of(axes: u32, last: [u32; 4]) -> Cuts
         requires { CanBeCut axes last }
         ensures { result ≡ axes_to axes last }

@@ -10,7 +10,7 @@ ghost use Rattle.ivp_func.specs.Pieces.{are_pieces_of, is_box_of, is_piece_of, i
 use crate::cuts::Cuts;
 use crate::grid::{Grid, next_meet};
 use crate::partition::{count, misfit};
-use crate::piece::Piece;
+use crate::piece::{Piece, are_same};
 use crate::values::{point_out, top, value_at};
 use ivp_domain::{BoxN, Domain, Point, Steps};
 use std::alloc::{AllocError, Global};
@@ -123,6 +123,13 @@ impl Func {
         Ok(Func { body })
     }
 
+    /// Whether the other one has the same pieces. Only pieces that are the same in all, in the same order, pass.
+    pub fn has_pieces_of(&self, other: &Func) -> bool
+        ensures { IsTrue result → self.now.pieces ≡ other.now.pieces }
+    {
+        are_same(&self.body().pieces, &other.body().pieces)
+    }
+
     // What it has.
     fn body(&self) -> &Body
         ensures function { function_in result.now ≡ self.now }
@@ -169,7 +176,7 @@ impl Func {
     }
 
     /// How many cells the grid has. Each axis is cut from place 0 on into runs of `ceil(points / c)`
-    /// places, the last shorter, if c is 256, 16, 6 or 4 for one, two, three or four axes; a cell
+    /// places, the last shorter, where c is 256, 16, 6 or 4 for one, two, three or four axes; a cell
     /// is one run of each axis.
     pub fn cells(&self) -> u32
         ensures { result ≡ cells_of self.now.axes }

@@ -53,3 +53,25 @@ pub(crate) fn value(piece: &Piece, point: &Point) -> i64
         + rise(piece, point, 2)
         + rise(piece, point, 3)
 }
+
+/// Only a piece that is the same in all passes.
+fn is_same(a: &Piece, b: &Piece) -> bool
+    ensures { IsTrue result → a.now ≡ b.now }
+{
+    a == b
+}
+
+/// Only pieces that are the same in all, in the same order, pass.
+pub(crate) fn are_same(a: &[Piece], b: &[Piece]) -> bool
+    ensures { IsTrue result → a.now ≡ b.now }
+{
+    if a.len() != b.len() {
+        return false;
+    }
+    for place in 0..a.len() {
+        if !is_same(&a[place], &b[place]) {
+            return false;
+        }
+    }
+    true
+}

@@ -1,5 +1,5 @@
 -- When terms make a problem, and what then holds of them.
-use Rattle.std.proofs.Common.{◌≡◌, ℕ, suc, ◌+◌, ◌<◌, Bool, true, false, not, ◌&&◌, ℤ, Some, None, List, [], ◌∷◌, length, drop, add-one, inl, inr, refl, sym, ap, subst, ◌∙◌, arith}
+use Rattle.std.proofs.Common.{◌≡◌, ℕ, suc, ◌+◌, ◌<◌, Bool, true, false, not, ◌&&◌, ℤ, Some, None, List, [], ◌∷◌, length, drop, take, add-one, inl, inr, refl, sym, ap, subst, ◌∙◌, arith}
 use Rattle.std.specs.Prelude.{slice_get, ◌==◌}
 use Rattle.std.specs.List.{position_from}
 use Rattle.std.specs.Ordering.{int_eq}
@@ -8,6 +8,7 @@ use Rattle.std.proofs.lemmas.Bool.{and_parts, cases_eq}
 use Rattle.std.proofs.lemmas.Bool.Decides.{Decides-int_eq, nat_tests}
 use Rattle.std.proofs.lemmas.Iterator.Adapters.{position_from-zero}
 use Rattle.std.proofs.Math.Seq.{drop-cons}
+use Rattle.std.proofs.lemmas.List.{take_more}
 use Rattle.std.proofs.lemmas.Option.{get_or_from_slice_get, slice_get_within}
 use Rattle.std.proofs.lemmas.Slice.Eq.{bytes_eq-Decides}
 use Rattle.ivp_domain.specs.declared.axis.Axis.{Axis}
@@ -92,3 +93,8 @@ terms_from axes terms weights domains functions =
 pub domain_from : (axes : List Axis) (terms : List Term) → 0 < length terms → AreTerms axes terms → is_domain axes ≡ true
 domain_from axes [] some h = absurd (omega arith)
 domain_from axes (t ∷ ts) some h = let first = h 0 t refl in subst (λ (a : List Axis). is_domain a ≡ true) first.domain first.func.domain
+
+-- terms over one domain that agree up to a place, and at it
+pub agree_more : (a b : List Term) (n : ℕ) (x y : Term) → slice_get a n ≡ Some x → slice_get b n ≡ Some y → x ≡ y → take n a ≡ take n b → take (n + 1) a ≡ take (n + 1) b
+agree_more a b n x y e f same before =
+    rw (take_more a n x (slice_get_within a n x e), take_more b n y (slice_get_within b n y f), get_or_from_slice_get a n x x e, get_or_from_slice_get b n y y f, before, same) refl

@@ -48,6 +48,10 @@ abbrev pub problem_from : List Axis → List Term → Result WeightedSum Problem
 problem_from axes terms =
     if length terms == 0 then Err NoFunction else if nat_lt 64 (length terms) then Err TooMany else judged_terms axes terms (bad_weight terms) (other_domain axes terms)
 
+-- the function of each term is over these axes
+abbrev pub AreOver : List Axis → List Term → Type 0
+AreOver axes terms = (place : ℕ) (term : Term) → slice_get terms place ≡ Some term → term.func.axes ≡ axes
+
 -- what each term of a problem keeps
 pub record IsTermOf (axes : List Axis) (term : Term) : Type 0 where
   pub weight : IsTrue (is_weight term.weight)

@@ -1,9 +1,10 @@
 // A problem: a domain and weighted functions over it.
-ghost use Rattle.std.specs.Prelude.{◌≡◌, ℕ, ◌+◌, ◌*◌, ◌^◌, ◌<◌, ◌≤◌, length, Some, IsTrue, IfNone, IfSome, slice_get, drop};
+ghost use Rattle.std.specs.Prelude.{◌≡◌, ℕ, ◌+◌, ◌*◌, ◌^◌, ◌<◌, ◌≤◌, List, length, Some, IsTrue, IfNone, IfOk, IfSome, slice_get, drop};
 ghost use Rattle.std.specs.List.{sum_by};
+ghost use Rattle.ivp_domain.specs.declared.axis.Axis.{Axis};
 ghost use Rattle.ivp_domain.specs.Domains.{is_point};
 ghost use Rattle.ivp_func.specs.Functions.{IsFunction};
-ghost use Rattle.ivp_problem.specs.Problems.{bad_weight, IsProblem, is_weight, other_domain, problem_from, same_domain};
+ghost use Rattle.ivp_problem.specs.Problems.{AreOver, bad_weight, IsProblem, is_weight, other_domain, problem_from, same_domain};
 ghost use Rattle.ivp_problem.specs.Sums.{sum_at, weighted_at};
 ghost use Rattle.ivp_problem.specs.Trees.{AreTops, top_of};
 
@@ -11,6 +12,7 @@ use crate::same::same_domain;
 use crate::term::{ProblemFault, Term};
 use ivp_domain::{Domain, Point, Steps};
 use ivp_func::{Func, func_law};
+use std::alloc::{AllocError, Global};
 use std::marker::{Brand, Model};
 use std::sync::ledger::{Blank, Ledger};
 
@@ -111,6 +113,32 @@ fn tops_of(terms: &[Term]) -> [u64; MOST_FUNCTIONS + 1]
     tops
 }
 
+/// Equal ones of these terms.
+fn shared_terms(alloc: Global, terms: &[Term]) -> Result<Vec<Term>, AllocError>
+    ensures { IfOk result (λ shared. shared.items ≡ terms.now) }
+{
+    let mut shared = Vec::with_capacity(alloc, terms.len())?;
+    for term in terms {
+        shared.push(term.share()?)?;
+    }
+    Ok(shared)
+}
+
+/// Whether the terms, over one domain, are the same.
+fn are_same(a: &[Term], b: &[Term]) -> bool
+    ensures { IsTrue result → (axes : List Axis) → AreOver axes a.now → AreOver axes b.now → a.now ≡ b.now }
+{
+    if a.len() != b.len() {
+        return false;
+    }
+    for place in 0..a.len() {
+        if !a[place].is_same(&b[place]) {
+            return false;
+        }
+    }
+    true
+}
+
 /// What holds of every problem. It does nothing.
 pub fn problem_law(problem: &Problem)
     ensures { IsProblem problem.now }
@@ -143,6 +171,29 @@ impl Problem {
             terms,
             tops,
         })
+    }
+
+    /// An equal one, whose functions share their pieces and their grids with those of this one.
+    pub fn copy(&self, alloc: Global) -> Result<Problem, AllocError>
+        ensures { IfOk result (λ problem. problem ≡ self.now) }
+    {
+        let terms = shared_terms(alloc, self.terms.as_slice())?;
+        Ok(Problem {
+            domain: self.domain,
+            terms,
+            tops: self.tops,
+        })
+    }
+
+    /// Whether the other one is the same. Only a problem over the same domain, with the same weights and the same pieces of
+    /// functions, all in the same order, passes.
+    pub fn is_same(&self, other: &Problem) -> bool
+        ensures { IsTrue result → self.now ≡ other.now }
+    {
+        if !same_domain(&self.domain, &other.domain) {
+            return false;
+        }
+        are_same(self.terms.as_slice(), other.terms.as_slice())
     }
 
     /// The domain.
