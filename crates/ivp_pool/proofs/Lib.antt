@@ -1,5 +1,7 @@
 mod Examples
 mod DequeExamples
+pub mod Lent
+pub mod Roots
 pub mod Knowing
 pub mod Standing
 pub mod Weights

@@ -14,9 +14,27 @@ use Rattle.ivp_pool.specs.declared.team.Member.{Member}
 use Rattle.ivp_pool.specs.declared.rule.Hand.{Hand}
 use Rattle.ivp_pool.specs.Hands.{EndState, hand}
 use Rattle.ivp_pool.specs.Solving.{IsNew}
-use Rattle.ivp_pool.specs.Members.{absorbed, deques_of, doors_of, first_parts, ClosedTo, IsNewMember, new_door, OpenTo, with_parts_out, put_by, put_in, tag_of, taken_by, taken_in, took_back, with_part_out, workers_of}
+use Rattle.ivp_pool.specs.Members.{absorbed, deques_of, doors_of, first_parts, IsNewMember, new_door, put_by, put_in, tag_of, taken_by, taken_in, took_back, with_part_out, workers_of}
 
 module _ {K : Type 0} where
+  -- members of whom the first ones gave a part to a door
+  abbrev pub with_parts_out : ℕ → List (Member K) → List (Member K)
+  with_parts_out zero members = members
+  with_parts_out (suc count) [] = []
+  with_parts_out (suc count) (member ∷ members) = with_part_out member ∷ with_parts_out count members
+
+  -- the first members have these doors
+  abbrev pub OpenTo : ℕ → List EndState → List (Member K) → Type 0
+  OpenTo zero row members = Unit {0}
+  OpenTo (suc count) row [] = Unit {0}
+  OpenTo (suc count) row (member ∷ members) = (member.doors.items ≡ row) × OpenTo count row members
+
+  -- the first members have no doors left, and the others have doors to these
+  abbrev pub ClosedTo : ℕ → List ((RowsId × Global) × ℕ) → List (Member K) → Type 0
+  ClosedTo zero tags members = Each (λ member. doors_of member ≡ tags) members
+  ClosedTo (suc count) tags [] = Unit {0}
+  ClosedTo (suc count) tags (member ∷ members) = (member.doors.items ≡ []) × ClosedTo count tags members
+
   pub parted_len : (count : ℕ) (members : List (Member K)) → length (with_parts_out count members) ≡ length members
   parted_len zero members = refl
   parted_len (suc count) [] = refl

@@ -1,11 +1,11 @@
 -- How the parts of a search come together, from a new team to the whole tree.
-use Rattle.std.proofs.Common.{◌≡◌, ℕ, suc, ◌+◌, ◌-◌, ◌*◌, ◌^◌, ◌<◌, ◌≤◌, inl, List, [], ◌∷◌, length, map, set, refl, sym, ap, ◌∙◌, subst, arith}
+use Rattle.std.proofs.Common.{◌≡◌, ℕ, suc, ◌+◌, ◌-◌, ◌*◌, ◌^◌, ◌<◌, ◌≤◌, inl, List, [], ◌∷◌, ◌++◌, length, map, set, refl, sym, ap, ◌∙◌, subst, arith}
 use Rattle.std.specs.Prelude.{All, get_or}
 use Rattle.std.specs.Global.{Global}
 use Rattle.std.specs.List.{sum_by, AllByRecursion as Each}
 use Rattle.std.proofs.lemmas.List.{append-nil}
 use Rattle.std.proofs.lemmas.List.Elements.{All-from_recursion, recursion_from_All}
-use Rattle.std.proofs.lemmas.List.Sums.{sum_by-cons}
+use Rattle.std.proofs.lemmas.List.Sums.{sum_by-append, sum_by-cons}
 use Rattle.atomic_blocks.specs.Lent.{RowsId}
 use Rattle.atomic_table.specs.Seated.{TableId}
 use Rattle.ivp_problem.specs.declared.node.Node.{Node}
@@ -19,12 +19,12 @@ use Rattle.ivp_pool.specs.Parts.{Incumbent, KnowsMore}
 use Rattle.ivp_pool.specs.Solving.{IsNew, IsWorker, knows_of, WentOn}
 use Rattle.ivp_pool.specs.Teams.{AllDid, AreBelow, AreWorkers, closed_in, shape_of, shapes_of}
 use Rattle.ivp_pool.proofs.Standing.{Stands}
-use Rattle.ivp_pool.proofs.Teams.{searched, Searched}
+use Rattle.ivp_pool.proofs.Teams.{closed_more, searched, Searched}
 use Rattle.ivp_pool.proofs.Weights.{few_weight, size_most}
 use Rattle.ivp_pool.proofs.Whole.{all_call_any, all_moved}
 
 -- a new worker is a worker
-new_worker : (problem : WeightedSum) (word : TableId) (worker : Worker) → IsNew problem word worker → IsWorker problem word worker
+pub new_worker : (problem : WeightedSum) (word : TableId) (worker : Worker) → IsNew problem word worker → IsWorker problem word worker
 new_worker problem word worker new = record { at_word = new.at_word; about = ap (λ m. m.0.about) new.scout; empty = ap (λ m. m.1) new.scout; owned = inl new.none }
 
 -- the whole tree isn't large
@@ -33,6 +33,16 @@ root_few problem h key count all =
     let root : IsNode problem (root_of problem) = record { path = []; reached = refl } in
     let stands : Stands problem 0 64 (root_of problem) = record { is = root; deep = omega arith; most = omega (arith, h.few) } in
     omega (arith, size_most problem h key 0 64 (root_of problem) all.all.part stands all.all.is, few_weight problem (root_of problem) h, all.all.size)
+
+-- one worker alone searched it: it closed the root, and then the root's children
+pub searched_alone : (problem : WeightedSum) → IsProblem problem → (key : Incumbent) (nodes : List Node) (start mid new : Worker) → start.work.closed ≡ 0 → WentOn problem (root_of problem ∷ []) nodes start mid → WentOn problem nodes [] mid new → KnowsMore (knows_of new) key → Searched problem key new.work.closed
+searched_alone problem h key nodes start mid new none one two up =
+    let root : Node = root_of problem in
+    let closed = closed_more problem (knows_of mid) (knows_of new) key (root ∷ []) nodes nodes [] one.count two.count (λ k out. up k (two.later k out)) up one.closed two.closed in
+    let all = searched problem h key (root ∷ nodes) (nodes ++ []) (one.count + two.count) (λ weigh. omega (arith, sum_by-cons weigh root nodes, sum_by-cons weigh root [], sum_by-append weigh nodes [])) closed in
+    let few = root_few problem h key (one.count + two.count) all in
+    let same : one.count + two.count ≡ new.work.closed = omega (arith, one.counted, two.counted, none, few) in
+    subst (Searched problem key) same all
 
 -- new doors, by tag
 door_tags : (deques : List (RowsId × Global)) → map tag_of (map new_door deques) ≡ first_parts deques

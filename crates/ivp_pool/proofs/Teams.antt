@@ -3,6 +3,8 @@ use Rattle.std.proofs.Common.{◌≡◌, ℕ, suc, ◌+◌, ◌*◌, ◌^◌, �
 use Rattle.std.specs.Prelude.{All, IsTrue, slice_get}
 use Rattle.std.specs.List.{sum_by, AllByRecursion as Each}
 use Rattle.std.proofs.lemmas.List.Elements.{All-from_recursion}
+use Rattle.std.specs.List.Sorted.{IsPermutation}
+use Rattle.std.proofs.lemmas.List.Sorted.{length_permutation, sum_by-IsPermutation}
 use Rattle.std.proofs.lemmas.List.Sums.{sum_by-append, sum_by-cons}
 use Rattle.moos_io.proofs.Lists.{each_append, each_at, each_from, each_weaker}
 use Rattle.ivp_domain.specs.declared.boxes.Point.{Point}
@@ -41,6 +43,27 @@ pub handed_nodes : (problem : WeightedSum) (key : Incumbent) (took took' : List 
 handed_nodes problem key took took' node count is closed =
     All-from_recursion (IsNode problem) (handed_within problem node closed.part)
     (each_weaker (IsBelow problem (suc node.depth)) (IsNode problem) (λ n below. below.is) (handed_within problem node closed.part) (handed_deeper problem key (length problem.terms) node closed.part (standing problem node is) closed.is closed.here))
+
+-- what they handed on may be told in any order
+pub went_in_order : (problem : WeightedSum) (nodes handed handed' : List Node) (old new : Worker) → IsPermutation handed handed' → WentOn problem nodes handed old new → WentOn problem nodes handed' old new
+went_in_order problem nodes handed handed' old new moved went =
+    let closed = went.closed in
+    record {
+      at_word = went.at_word;
+      scout = went.scout;
+      later = went.later;
+      owned = went.owned;
+      count = went.count;
+      wraps = went.wraps;
+      counted = went.counted;
+      closed = record {
+        tallies = closed.tallies;
+        each = closed.each;
+        called = closed.called;
+        passed = λ weigh. closed.passed weigh ∙ sym (sum_by-IsPermutation weigh handed handed' moved);
+        size = omega (arith, closed.size, length_permutation handed handed' moved);
+      };
+    }
 
 -- calls and further calls, where as much is known as in both
 pub closed_more : (problem : WeightedSum) (one other key : Incumbent) (nodes handed nodes' handed' : List Node) (count count' : ℕ) → KnowsMore one key → KnowsMore other key → AreClosed problem one nodes handed count → AreClosed problem other nodes' handed' count' → AreClosed problem key (nodes ++ nodes') (handed ++ handed') (count + count')

@@ -2,17 +2,19 @@
 use Rattle.std.proofs.Common.{◌≡◌, ℕ, zero, suc, ◌+◌, ◌-◌, ◌<◌, ◌≤◌, List, [], ◌∷◌, ◌++◌, length, set, take, refl, sym, ap, ◌∙◌, subst, arith, add-zero}
 use Rattle.std.specs.Prelude.{get_or}
 use Rattle.std.specs.List.{sum_by}
-use Rattle.std.proofs.lemmas.List.{append-nil, length-set, take_more}
+use Rattle.std.proofs.lemmas.List.{append-nil, length-set, map_more}
 use Rattle.std.proofs.lemmas.List.Elements.{All-from_recursion, All-set, All-tail, recursion_from_All}
 use Rattle.std.proofs.lemmas.List.Sums.{sum_by-append, sum_by-cons, sum_by-set}
 use Rattle.atomic_table.specs.Seated.{TableId}
 use Rattle.ivp_problem.specs.declared.node.Node.{Node}
 use Rattle.ivp_problem.specs.Problems.{WeightedSum}
+use Rattle.ivp_pool.specs.declared.root.Child.{Child}
 use Rattle.ivp_pool.specs.declared.team.Member.{Member}
 use Rattle.ivp_pool.specs.declared.team.Worker.{Worker}
 use Rattle.ivp_pool.specs.Hands.{EndState, IsSettled}
 use Rattle.ivp_pool.specs.Members.{Did, put_by, put_in, taken_by, taken_in}
 use Rattle.ivp_pool.specs.Parts.{Incumbent, KnowsMore}
+use Rattle.ivp_pool.specs.Roots.{child_nodes}
 use Rattle.ivp_pool.specs.Solving.{AreClosed, IsWorker, knows_of, WentOn}
 use Rattle.ivp_pool.specs.Teams.{AllDid, AreBelow, AreWorkers, closed_in, deque_states, HasEmptied, door_rows, shape_of, shapes_of}
 use Rattle.ivp_pool.proofs.Members.{put_more, took_one}
@@ -59,15 +61,17 @@ module _ {K : Type 0} (problem : WeightedSum) (word : TableId) where
         len = two.len ∙ one.len;
       }
 
-  -- of the nodes at hand the last one was done with
-  pub last_done : (nodes : List Node) (count : ℕ) (d : Node) (old now new : List (Member K)) → 0 < count → count ≤ length nodes → AllDid problem word nodes (take count nodes) old now → AllDid problem word (get_or nodes (count - 1) d ∷ take (count - 1) nodes) (take (count - 1) nodes) now new → AllDid problem word nodes (take (count - 1) nodes) old new
-  last_done nodes count d old now new some within one two =
-      let node = get_or nodes (count - 1) d in
-      let rest = take (count - 1) nodes in
-      let parts : take count nodes ≡ rest ++ node ∷ [] = subst (λ n. take n nodes ≡ rest ++ node ∷ []) (omega (arith, some)) (take_more nodes (count - 1) d (omega (arith, some, within))) in
-      let first = all_moved (take count nodes) (node ∷ rest) now now refl one.workers refl (λ key below. below)
+  -- of the children at hand the last one was done with
+  pub last_done : (children : List Child) (count : ℕ) (d : Child) (old now new : List (Member K)) → 0 < count → count ≤ length children → AllDid problem word (child_nodes children) (child_nodes (take count children)) old now → AllDid problem word ((get_or children (count - 1) d).node ∷ child_nodes (take (count - 1) children)) (child_nodes (take (count - 1) children)) now new → AllDid problem word (child_nodes children) (child_nodes (take (count - 1) children)) old new
+  last_done children count d old now new some within one two =
+      let nodes = child_nodes children in
+      let front = child_nodes (take count children) in
+      let node = (get_or children (count - 1) d).node in
+      let rest = child_nodes (take (count - 1) children) in
+      let parts : front ≡ rest ++ node ∷ [] = subst (λ n. child_nodes (take n children) ≡ rest ++ node ∷ []) (omega (arith, some)) (map_more (λ (child : Child). child.node) children (count - 1) d (omega (arith, some, within))) in
+      let first = all_moved front (node ∷ rest) now now refl one.workers refl (λ key below. below)
       (λ weigh. omega (arith, ap (sum_by weigh) parts, sum_by-append weigh rest (node ∷ []), sum_by-cons weigh node rest)) in
-      all_more nodes (node ∷ rest) rest old now new (all_more nodes (take count nodes) (node ∷ rest) old now now one first) two
+      all_more nodes (node ∷ rest) rest old now new (all_more nodes front (node ∷ rest) old now now one first) two
 
   -- one member changed
   below_set : (key : Incumbent) (members : List (Member K)) (place : ℕ) (d new : Member K) → place < length members → KnowsMore (knows_of (get_or members place d).worker) (knows_of new.worker) → AreBelow key (set members place new) → AreBelow key members

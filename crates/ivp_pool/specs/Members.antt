@@ -1,7 +1,7 @@
 -- The members of a team: each a worker with its deque and its doors to all deques. What one did, and what all did.
 use Rattle.std.specs.Prelude.{◌≡◌, ℕ, zero, suc, ◌+◌, ◌-◌, List, [], ◌∷◌, map}
 use Rattle.std.specs.Global.{Global}
-use Rattle.std.specs.List.{sum_by, AllByRecursion as Each}
+use Rattle.std.specs.List.{sum_by}
 use Rattle.atomic_blocks.specs.Lent.{RowsId}
 use Rattle.atomic_table.specs.Seated.{TableId}
 use Rattle.ivp_problem.specs.declared.node.Node.{Node}
@@ -99,21 +99,3 @@ module _ {K : Type 0} where
   pub record IsNewMember (problem : WeightedSum) (word : TableId) (out : ℕ) (member : Member K) : Type 0 where
     pub worker : IsNew problem word member.worker
     pub hand : member.deque.hand ≡ hand (1024 - out) [] []
-
-  -- members of whom the first ones gave a part to a door
-  abbrev pub with_parts_out : ℕ → List (Member K) → List (Member K)
-  with_parts_out zero members = members
-  with_parts_out (suc count) [] = []
-  with_parts_out (suc count) (member ∷ members) = with_part_out member ∷ with_parts_out count members
-
-  -- the first members have these doors
-  abbrev pub OpenTo : ℕ → List EndState → List (Member K) → Type 0
-  OpenTo zero row members = Unit {0}
-  OpenTo (suc count) row [] = Unit {0}
-  OpenTo (suc count) row (member ∷ members) = (member.doors.items ≡ row) × OpenTo count row members
-
-  -- the first members have no doors left, and the others have doors to these
-  abbrev pub ClosedTo : ℕ → List ((RowsId × Global) × ℕ) → List (Member K) → Type 0
-  ClosedTo zero tags members = Each (λ member. doors_of member ≡ tags) members
-  ClosedTo (suc count) tags [] = Unit {0}
-  ClosedTo (suc count) tags (member ∷ members) = (member.doors.items ≡ []) × ClosedTo count tags members

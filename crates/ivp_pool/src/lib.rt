@@ -5,13 +5,15 @@
 //! What `close_one` makes of a node is a part of its tree: each node without children there was handed to the tray, or its
 //! bound's sum is below what the scout knows, or the own key reaches its bound. So no point of the node is lost.
 //!
-//! Reading order: `tray`, `close`, `at_once`, `law`, `work`, `rule`, `deque`, `team`, `setup`, `search`, `solved`.
+//! Reading order: `tray`, `close`, `at_once`, `law`, `work`, `rule`, `deque`, `team`, `root`, `alone`, `setup`, `search`, `solved`.
 #![tactic(auto)]
 
+mod alone;
 mod at_once;
 mod close;
 mod deque;
 mod law;
+mod root;
 mod rule;
 mod search;
 mod setup;

@@ -5,43 +5,46 @@ ghost use Rattle.ivp_domain.specs.Domains.{is_point};
 ghost use Rattle.ivp_problem.specs.declared.node.Node.{Node};
 ghost use Rattle.ivp_problem.specs.Sums.{key_at};
 ghost use Rattle.ivp_problem.specs.Trees.{IsNode};
+ghost use Rattle.ivp_pool.specs.Roots.{child_nodes};
 ghost use Rattle.ivp_pool.specs.Members.{Did, IsNewMember, put_in, taken_in};
 ghost use Rattle.ivp_pool.specs.Parts.{Incumbent, Outdoes};
 ghost use Rattle.ivp_pool.specs.Teams.{AllDid, deque_states, HasEmptied, door_rows, shapes_of, AreBelow, AreWorkers, closed_in};
 ghost use Rattle.ivp_pool.specs.Solving.{IsSearched, IsWorker};
 
+use crate::root::{Child, close_root};
 use crate::rule::About;
 use crate::setup::{open_doors, take_back};
-use crate::team::{Member, NoTray, close_next, close_root, work};
+use crate::team::{Member, NoTray, close_next, work};
 use crate::tray::Tray;
 use best_word::Best;
-use ivp_problem::{Node, Problem, problem_law};
+use ivp_problem::{Problem, problem_law};
 use moos_io::{Gate, NoMemory};
 use std::alloc::Global;
 use std::sync::Wait;
 use std::thread::{Threads, for_each_mut};
 
-/// Deals the root's children: the one at place `k` goes to the deque of member `k` modulo their number. One that finds no
-/// memory there is closed at once. The last is dealt first: a member takes first what was put into its deque last, so each
-/// begins with the first of its children, and one that is alone takes them all in the order of the pieces.
+/// Deals the root's children, which are in the order of their bounds: the one at place `k` among the root's goes to the deque
+/// of member `k` modulo their number. One that finds no memory there is closed at once. The last is dealt first: a member takes
+/// first what was put into its deque last, so each begins with the greatest bound of its own children.
 fn deal<K: About, G: Gate>(
     problem: &Problem,
     best: &Best,
     gate: &G,
-    nodes: &[Node],
+    children: &[Child],
     members: &mut [Member<K>],
 )
     requires problem { problem.now ≡ K.problem }
-    requires nodes { All (IsNode problem.now) nodes.now }
+    requires nodes { All (λ child. IsNode problem.now child.node) children.now }
     requires some { 0 < length members.old }
     requires workers { AreWorkers problem.now best.now members.old }
-    ensures did { AllDid problem.now best.now nodes.now [] members.old members.new }
+    ensures did { AllDid problem.now best.now (child_nodes children.now) [] members.old members.new }
     ensures same { shapes_of members.new ≡ shapes_of members.old }
 {
     let workers = members.len();
     let mut none = NoTray { problem };
-    for place in (0..nodes.len()).rev() {
-        if let Some(node) = members[place % workers].deque.put(nodes[place]) {
+    for next in (0..children.len()).rev() {
+        let child = children[next];
+        if let Some(node) = members[child.place % workers].deque.put(child.node) {
             close_next(
                 problem,
                 best,
@@ -55,8 +58,7 @@ fn deal<K: About, G: Gate>(
     }
 }
 
-/// Lets all members work, on a thread of its own each if one can be started. From one that is alone nobody would steal,
-/// so its nodes need no way through a deque: what it was dealt is left for the end, where each child is closed at once.
+/// Lets all members work, on a thread of its own each if one can be started.
 fn work_all<K: About + Send + Sync, R: Threads + Wait + Sync, G: Gate>(
     rt: &R,
     problem: &Problem,
@@ -73,9 +75,6 @@ fn work_all<K: About + Send + Sync, R: Threads + Wait + Sync, G: Gate>(
     ensures same { shapes_of members.new ≡ shapes_of members.old }
 {
     let workers = members.len();
-    if workers == 1 {
-        return;
-    }
     let run = |number: usize, member: &mut Member<K>|
         requires { (problem.now ≡ K.problem) × IsWorker problem.now best.now member.now.worker × (number < length member.now.doors.items) × (length member.now.doors.items ≤ 16) }
         ensures { Did problem.entry.now member.entry.now member.exit.now }
@@ -159,8 +158,8 @@ pub(crate) fn search<K: About + Send + Sync, R: Threads + Wait + Sync, G: Gate>(
 {
     problem_law(problem);
     open_doors(alloc, problem, best, members)?;
-    let nodes = close_root(alloc, problem, best, gate, &mut members[0].worker);
-    deal(problem, best, gate, &nodes, members);
+    let children = close_root(alloc, problem, best, gate, &mut members[0].worker);
+    deal(problem, best, gate, &children, members);
     work_all(rt, problem, best, gate, members);
     take_back(alloc, members);
     finish(rt, problem, best, gate, members);

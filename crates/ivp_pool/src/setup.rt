@@ -4,11 +4,9 @@ ghost use Rattle.best_word.specs.Known.{first_scout};
 ghost use Rattle.ivp_problem.specs.declared.node.Node.{Node};
 ghost use Rattle.ivp_pool.specs.Members.{absorbed, deques_of, doors_of, first_parts, IsNewMember, new_door, put_in, tag_of, taken_in, with_part_out, workers_of};
 
-use crate::close::Own;
 use crate::deque::{Deque, Door};
 use crate::rule::About;
 use crate::team::{Member, Worker};
-use crate::work::Work;
 use best_word::{Best, Scout};
 use ivp_problem::Problem;
 use moos_io::NoMemory;
@@ -28,7 +26,7 @@ fn row_of<K: About>(alloc: Global, members: &mut [Member<K>]) -> Result<Vec<Door
     Ok(row)
 }
 
-/// A team of so many members, which have made no call yet, and have no doors.
+/// A team of `workers` members, which have made no call yet, and have no doors.
 pub(crate) fn team_of<K: About>(
     alloc: Global,
     problem: &Problem,
@@ -45,12 +43,7 @@ pub(crate) fn team_of<K: About>(
     let mut team = Vec::with_capacity(alloc, workers as usize)?;
     for _ in 0..workers {
         team.push(Member {
-            worker: Worker {
-                scout: best.split(scout),
-                own: Own { key: None },
-                calls: 0,
-                work: Work { closed: 0 },
-            },
+            worker: Worker::new(best.split(scout)),
             deque: Deque::make(alloc)?,
             doors: Vec::new(alloc),
         })?;

@@ -7,11 +7,12 @@ ghost use Rattle.ivp_pool.specs.Parts.{knows_only, Outdoes};
 ghost use Rattle.ivp_pool.specs.Solving.{IsSearched, total_of};
 ghost use Rattle.ivp_pool.specs.Teams.{AreBelow, AreWorkers};
 
+use crate::alone::search_alone;
 use crate::close::Own;
 use crate::rule::About;
 use crate::search::search;
 use crate::setup::team_of;
-use crate::team::Member;
+use crate::team::{Member, Worker};
 use crate::work::Works;
 use best_word::{Best, Scout};
 use ivp_domain::Point;
@@ -31,10 +32,12 @@ pub struct Solved {
 }
 
 /// Finds the best point of a problem by 1 to 16 workers. Worker 0 closes the root, whose child `k` is dealt to worker `k`
-/// modulo the number of workers. Then each worker, on a thread of its own if one can be started, closes the nodes of its
-/// deque, to which their children go, and steals from the others when it has none; a child is closed at once if 16 nodes
-/// wait there already or no memory is found for it, as each is if one worker is alone. They share the greatest sum that any
-/// of them knows, and each keeps the greatest key that it found; the greatest of these is the best one. The gate is told before each call for a worker's node. `Err` is want of memory for the word, for the workers, their deques or their counts.
+/// modulo the number of workers; of those each begins with the greatest bound. Each worker, on a thread of its own if one can be
+/// started, closes the nodes of its deque, to which their children go, and steals from the others when it has none; a child is
+/// closed at once if 16 nodes wait there already or no memory is found for it, as each is if one worker is alone. They share the
+/// greatest sum that any of them knows, and each keeps the greatest key that it found; the greatest of these is the best one. The
+/// gate is told before each call for a worker's node. `Err` is want of memory for the word, for the workers, their deques or their
+/// counts.
 pub fn solve<R: Threads + Wait + Sync, G: Gate>(
     rt: &R,
     alloc: Global,
@@ -54,7 +57,27 @@ pub fn solve<R: Threads + Wait + Sync, G: Gate>(
     ensures workers { IfOk result (λ solved. length solved.work ≡ workers) }
     ensures closed { IfOk result (λ solved. IsSearched problem.now (knows_only (key_at problem.now (best_of problem.now))) (total_of solved.work)) }
 {
+    if workers == 1 {
+        return solve_alone(alloc, problem, gate);
+    }
     solve_as::<Brand, R, G>(rt, alloc, problem, workers, gate)
+}
+
+/// The same by one worker alone.
+fn solve_alone<G: Gate>(alloc: Global, problem: &Problem, gate: &G) -> Result<Solved, NoMemory>
+    ensures point { IfOk result (λ solved. solved.point ≡ best_of problem.now) }
+    ensures key { IfOk result (λ solved. solved.key ≡ key_at problem.now (best_of problem.now)) }
+    ensures workers { IfOk result (λ solved. length solved.work ≡ 1) }
+    ensures closed { IfOk result (λ solved. IsSearched problem.now (knows_only (key_at problem.now (best_of problem.now))) (total_of solved.work)) }
+{
+    let (best, scout) = Best::make(alloc, problem)?;
+    let mut worker = Worker::new(scout);
+    search_alone(alloc, problem, &best, gate, &mut worker);
+    let mut work = Works::new(alloc);
+    work.push(worker.work).map_err(|_| AllocError)?;
+    let key = best_key(problem, &best, &mut worker.scout, worker.own.key);
+    let point = best_point(problem, key);
+    Ok(Solved { point, key, work })
 }
 
 /// The same, over deques whose rule names the problem.

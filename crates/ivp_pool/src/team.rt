@@ -1,7 +1,7 @@
 // What the members of a team do: each closes nodes of its own deque, and nodes that it steals from the others.
-ghost use Rattle.std.specs.Prelude.{◌≡◌, ◌<◌, ◌≤◌, ◌++◌, ◌∷◌, [], length, All, List, MatchOption};
+ghost use Rattle.std.specs.Prelude.{◌≡◌, ◌<◌, ◌≤◌, ◌++◌, ◌∷◌, [], length, All, List, MatchOption, None};
 ghost use Rattle.ivp_problem.specs.declared.node.Node.{Node};
-ghost use Rattle.ivp_problem.specs.Trees.{IsNode, root_of};
+ghost use Rattle.ivp_problem.specs.Trees.{IsNode};
 ghost use Rattle.ivp_pool.specs.Members.{Did, TookNode, Same};
 ghost use Rattle.ivp_pool.specs.Solving.{IsWorker, WentOn};
 
@@ -13,7 +13,6 @@ use crate::work::Work;
 use best_word::{Best, Scout};
 use ivp_problem::{Node, Problem};
 use moos_io::Gate;
-use std::alloc::Global;
 use std::sync::Wait;
 
 /// A worker: its scout at the shared word, how many nodes it was called for, and how many these calls closed. Neither count
@@ -26,32 +25,26 @@ pub(crate) struct Worker {
     pub(crate) work: Work,
 }
 
+impl Worker {
+    /// A worker that has made no call yet.
+    pub(crate) fn new(scout: Scout) -> Worker
+        ensures { result ≡ record { scout = scout; own = record { key = None }; calls = 0; work = record { closed = 0 } } }
+    {
+        Worker {
+            scout,
+            own: Own { key: None },
+            calls: 0,
+            work: Work { closed: 0 },
+        }
+    }
+}
+
 /// A worker with the nodes that wait for it, and a door to each worker's deque, by the workers' numbers.
 #[derive(Drop)]
 pub(crate) struct Member<K: About> {
     pub(crate) worker: Worker,
     pub(crate) deque: Deque<K>,
     pub(crate) doors: Vec<Door<K>>,
-}
-
-/// The tray of the root: a plain list of its children, in order.
-#[derive(Drop)]
-struct Children<'a> {
-    pub(crate) problem: &'a Problem,
-    nodes: Vec<Node>,
-}
-
-impl<'a> Tray for Children<'a> {
-    ghost problem = { λ tray. tray.problem.now };
-
-    ghost took = { λ tray. tray.nodes.items };
-
-    fn push(&mut self, node: Node) -> Option<Node> {
-        match self.nodes.push(node) {
-            Ok(()) => None,
-            Err(refused) => Some(refused.value),
-        }
-    }
 }
 
 /// A tray that hands each node back, so that it is closed at once.
@@ -154,22 +147,4 @@ pub(crate) fn work<K: About, R: Wait, G: Gate>(
             &mut member.deque,
         );
     }
-}
-
-/// Closes the root, by worker 0. The answer is the children that are to be dealt, in order.
-pub(crate) fn close_root<G: Gate>(
-    alloc: Global,
-    problem: &Problem,
-    best: &Best,
-    gate: &G,
-    worker: &mut Worker,
-) -> Vec<Node>
-    requires { IsWorker problem.now best.now worker.old }
-    ensures went { WentOn problem.now (root_of problem.now ∷ []) result.items worker.old worker.new }
-    ensures nodes { All (IsNode problem.now) result.items }
-{
-    let nodes = Vec::new(alloc);
-    let mut tray = Children { problem, nodes };
-    close_next(problem, best, gate, 0, worker, problem.root(), &mut tray);
-    tray.nodes
 }

@@ -1,11 +1,8 @@
-use Rattle.std.proofs.Common.{rules, ℕ, ◌<◌, [], get_or, length}
+use Rattle.std.proofs.Common.{rules, ℕ, ◌<◌, get_or, length}
 use Rattle.ivp_pool.specs.declared.team.Member.{Member}
 use Rattle.ivp_pool.specs.Members.{Did}
-use Rattle.ivp_pool.proofs.Whole.{all_beside, all_none, shapes_beside}
+use Rattle.ivp_pool.proofs.Whole.{all_beside, shapes_beside}
 use Rattle.ivp_pool.proofs.search.work_all.Goals as goal
-
-pub returns-then-workers-eq1-clause-did : goal.returns-then-workers-eq1-clause-did
-returns-then-workers-eq1-clause-did g c = all_none c.args.problem.now c.args.best.now [] c.args.members.now c.requires.workers
 
 pub returns-clause-did : goal.returns-clause-did
 returns-clause-did g c =

@@ -1,5 +1,6 @@
 use Rattle.std.proofs.Common.{◌≡◌, map, take}
-use Rattle.ivp_pool.specs.Members.{deques_of, new_door, with_parts_out}
+use Rattle.ivp_pool.specs.Members.{deques_of, new_door}
+use Rattle.ivp_pool.proofs.Rows.{with_parts_out}
 use Rattle.ivp_pool.proofs.setup.row_of.Given as goal
 
 -- a door of each member so far

@@ -1,6 +1,5 @@
-use Rattle.std.proofs.Common.{◌≡◌, ℕ, List, [], ◌∷◌, ◌++◌, refl, drop, length, map, take, ap, arith, subst, sym, ◌∙◌}
+use Rattle.std.proofs.Common.{◌≡◌, List, [], ◌∷◌, refl, drop, length, map, ap, arith, subst, sym, ◌∙◌}
 use Rattle.std.proofs.lemmas.List.Sums.{sum_by-cons}
-use Rattle.std.proofs.Math.Seq.{take-append_seam}
 use Rattle.ivp_pool.specs.declared.work.Work.{Work}
 use Rattle.ivp_pool.specs.declared.team.Member.{Member}
 use Rattle.ivp_problem.specs.declared.key.Key.{Key}
@@ -8,11 +7,8 @@ use Rattle.ivp_pool.specs.Parts.{Incumbent, knows_only}
 use Rattle.ivp_pool.specs.Teams.{AreBelow, AreWorkers, closed_in}
 use Rattle.ivp_pool.specs.Solving.{IsSearched, total_of}
 use Rattle.ivp_pool.proofs.Deciding.{only_best}
+use Rattle.ivp_pool.proofs.Lent.{came_back}
 use Rattle.ivp_pool.proofs.solved.solve_as.Goals as goal
-
--- a list that was lent comes back whole
-came_back : {K : Type 0} (len : ℕ) (team rest : List (Member K)) → len ≡ length team → take len (team ++ rest) ≡ team
-came_back len team rest same = ap (λ n. take n (team ++ rest)) same ∙ take-append_seam team rest
 
 -- a count of the members is one of their works
 counts : {K : Type 0} (members : List (Member K)) → closed_in members ≡ total_of (map (λ member. member.worker.work) members)
