@@ -19,12 +19,12 @@ use Rattle.ivp_cert.specs.declared.stage.ProblemStage.TheVariants.{Start, Begun,
 use Rattle.ivp_cert.specs.declared.claim.Spelled.{Spelled}
 use Rattle.ivp_cert.specs.Decisions.{are_on, bound_with, claimed, decision_of, in_form, line_from, line_with, point_at, spelled, spelled_with, sum_word, with_claim, with_cut, with_line}
 use Rattle.ivp_cert.specs.Problems.{nothing_behind, problem_of}
-use Rattle.ivp_cert.specs.Stages.{after_cuts, after_problem, after_stage, after_word, stage_after, as_now, phase_after, after_lines, whole_decision, whole_problem}
+use Rattle.ivp_cert.specs.Stages.{after_cuts, after_problem, after_stage, after_word, stage_after, as_now, phase_after, whole_decision, whole_problem}
 use Rattle.moos_text.specs.Refusals.{and_then, at_line}
 use Rattle.ivp_cert.specs.Words.{line_words, place_of}
 use Rattle.ivp_cert.specs.Printed.{HasSums}
 use Rattle.ivp_cert.proofs.Following.{decision_read, problem_read}
-use Rattle.ivp_cert.proofs.Reading.{IsRead}
+use Rattle.ivp_cert.proofs.Reading.{after_lines, IsRead}
 
 -- the claim's sum, and those of the lines
 record KeepsSums (decision : Decision) : Type 0 where

@@ -18,9 +18,10 @@ use Rattle.ivp_cert.specs.Decisions.{claim_in, cuts_in, decision_of, with_claim,
 use Rattle.ivp_cert.specs.Pieces.{piece_of}
 use Rattle.ivp_cert.specs.Problems.{axes_in, domain_in, nothing_behind, ended_early, finished, functions_in, is_first, problem_in, problem_of, with_domain, with_function, with_piece}
 use Rattle.ivp_cert.specs.SaidLines.{last_of, SaidLine, said_from, said_with}
-use Rattle.ivp_cert.specs.Stages.{after_first, after_word, stage_after, as_now, phase_after, after_lines, whole_decision, whole_problem}
+use Rattle.ivp_cert.specs.Stages.{after_first, after_word, stage_after, as_now, phase_after, whole_decision, whole_problem}
 use Rattle.ivp_cert.specs.Unfinished.{UnfinishedSum}
 use Rattle.ivp_cert.specs.Words.{line_words}
+use Rattle.ivp_cert.proofs.Reading.{after_lines}
 
 -- what `next` makes of a problem and the lines behind it
 abbrev Next : Type 0 → Type 0

@@ -8,9 +8,8 @@ use Rattle.moos_io.proofs.Lists.{each_append, each_weaker}
 use Rattle.moos_text.specs.Lines.{is_blank, onto_first, raw_lines, trimmed, without_front_blanks, without_return, words_of}
 use Rattle.ivp_cert.specs.Printed.{IsPrefix}
 use Rattle.moos_text.specs.Refusals.{and_then}
-use Rattle.ivp_cert.specs.Stages.{after_lines}
 use Rattle.ivp_cert.specs.Words.{line_words, without_prefix}
-use Rattle.ivp_cert.proofs.Reading.{After}
+use Rattle.ivp_cert.proofs.Reading.{After, after_lines}
 
 -- at least one byte, and each is visible
 pub record IsWord (word : List ℕ) : Type 0 where

@@ -1,16 +1,20 @@
 -- The lines of a file one after another, and what the whole comes to.
-use Rattle.std.proofs.Common.{◌≡◌, ℕ, suc, ◌+◌, ◌≤◌, Result, Ok, Err, List, ◌∷◌, length, ap, sym, subst, ◌∙◌, arith, add-one}
+use Rattle.std.proofs.Common.{◌≡◌, ℕ, suc, ◌+◌, ◌≤◌, Result, Ok, Err, List, [], ◌∷◌, length, ap, sym, subst, ◌∙◌, arith, add-one}
 use Rattle.std.specs.Prelude.{IfErr, IfOk}
 use Rattle.moos_text.specs.declared.cause.ReadFault.{ReadFault}
 use Rattle.moos_text.specs.declared.cause.ReadFault.TheVariants.{At, NoMemory}
 use Rattle.moos_text.specs.Lines.{first_line, raw_lines, trimmed, without_return, words_of}
 use Rattle.moos_text.specs.Refusals.{and_then, IsFirst}
-use Rattle.ivp_cert.specs.Stages.{after_lines}
-use Rattle.ivp_cert.specs.Words.{without_prefix}
+use Rattle.ivp_cert.specs.Words.{line_words, without_prefix}
 
 -- what one line more comes to, by its number and its words
 abbrev pub After : Type 0 → Type 0
 After S = ℕ → S → List (List ℕ) → Result S ReadFault
+
+-- What the lines lead to from here on, if so many were read. One line more is taken by its number and its words.
+abbrev pub after_lines : {S : Type 0} → After S → ℕ → S → List (List ℕ) → Result S ReadFault
+after_lines after lines state [] = Ok state
+after_lines after lines state (raw ∷ raws) = and_then (λ next. after_lines after (suc lines) next raws) (after (suc lines) state (line_words raw))
 
 -- what was read of the bytes: so many lines, which come to this state, and what is left
 pub record IsRead {S : Type 0} (after : After S) (start : S) (bytes : List ℕ) (lines : ℕ) (state : S) (left : List ℕ) : Type 0 where

@@ -13,10 +13,11 @@ use Rattle.ivp_cert.specs.declared.phase.DecisionStage.TheVariants.{OfProblem, O
 use Rattle.ivp_cert.specs.declared.stage.ProblemStage.TheVariants.{Start, Begun, Axes, Functions, Ended}
 use Rattle.ivp_cert.specs.Making.{line_fault}
 use Rattle.ivp_cert.specs.Pieces.{are_slopes, is_slope_where}
-use Rattle.ivp_cert.specs.Stages.{stage_after, HasPoint, phase_after, after_lines, whole_decision, whole_problem}
+use Rattle.ivp_cert.specs.Stages.{stage_after, HasPoint, phase_after, whole_decision, whole_problem}
 use Rattle.ivp_cert.specs.Unfinished.{UnfinishedSum}
 use Rattle.ivp_cert.proofs.CertExamples.{decision, problem_bytes}
 use Rattle.ivp_cert.proofs.Examples.{course, on_course}
+use Rattle.ivp_cert.proofs.Reading.{after_lines}
 
 -- the first lines of a problem: its axis, and a function that has no piece yet
 abbrev begun : UnfinishedSum

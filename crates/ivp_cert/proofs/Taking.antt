@@ -4,9 +4,10 @@ use Rattle.std.specs.List.{AllByRecursion as Each}
 use Rattle.moos_text.specs.Lines.{raw_lines}
 use Rattle.ivp_cert.specs.declared.phase.DecisionStage.{DecisionStage}
 use Rattle.ivp_cert.specs.Printed.{IsPrefix}
-use Rattle.ivp_cert.specs.Stages.{after_first, phase_after, after_lines}
+use Rattle.ivp_cert.specs.Stages.{after_first, phase_after}
 use Rattle.moos_text.specs.Refusals.{and_then}
 use Rattle.ivp_cert.proofs.PrintedLines.{IsWord, line_of, line_taken}
+use Rattle.ivp_cert.proofs.Reading.{after_lines}
 
 -- the text takes the reader from a phase, after so many lines, to another one
 pub record Takes (lines : ℕ) (phase : DecisionStage) (text : List ℕ) (more : ℕ) (then : DecisionStage) : Type 0 where

@@ -65,7 +65,7 @@ line_with path (Some sum) (Some index) = Some (record { path = path; sum = sum; 
 line_with path None index = None
 line_with path (Some sum) None = None
 
--- behind a path and `:` are a sum and an index
+-- after a path and `:` come a sum and an index
 abbrev pub bound_with : List ℕ → List (List ℕ) → Option Line
 bound_with path [] = None
 bound_with path (sum ∷ []) = None
@@ -88,7 +88,7 @@ with_line decision line = record decision { cert = decision.cert ++ line ∷ [] 
 abbrev pub with_cut : Decision → List (List ℕ) → Result Decision Cause
 with_cut decision words = and_then (λ line. Ok (with_line decision line)) (in_form (line_from [] words))
 
--- in a certificate is one line more, or `done`, behind which no line says anything
+-- in a certificate comes one line more, or `done`, after which no line says anything
 abbrev pub cuts_in : ℕ → Decision → List SaidLine → Result Decision ReadFault
 cuts_in last decision [] = Err (At last P9)
 cuts_in last decision (said ∷ behind) =
@@ -96,7 +96,7 @@ cuts_in last decision (said ∷ behind) =
     else if bytes_eq said.word (codes "done") then and_then (λ whole. last_of whole behind) (at_line said.line (nothing_behind decision said.rest))
     else Err (At said.line P1)
 
--- behind a problem is what is claimed of it, and then the certificate
+-- after a problem comes what is claimed of it, and then the certificate
 abbrev pub claim_in : ℕ → WeightedSum → List SaidLine → Result Decision ReadFault
 claim_in last problem [] = Err (At last P9)
 claim_in last problem (said ∷ behind) =

@@ -12,5 +12,6 @@ pub mod Decisions
 pub mod Stages
 pub mod Texts
 pub mod PathTexts
+pub mod PathsKept
 pub mod Printed
 pub mod Topmost

@@ -86,7 +86,7 @@ abbrev pub ended_early : List (List ℕ) → Cause
 ended_early [] = P8
 ended_early (word ∷ rest) = P1
 
--- Behind a function is a piece of it, or the next function or `end`, which finish it first; behind `end` is what
+-- After a function comes a piece of it, or the next function or `end`, which finish it first; behind `end` is what
 -- `next` makes of the problem and the lines that are left.
 abbrev pub functions_in : {A : Type 0} → ℕ → (WeightedSum → List SaidLine → Result A ReadFault) → UnfinishedSum → List SaidLine → Result A ReadFault
 functions_in last next sum [] = Err (At last P9)
@@ -99,7 +99,7 @@ functions_in last next sum (said ∷ behind) =
     and_then (λ whole. and_then (λ problem. next problem behind) (at_line said.line (nothing_behind whole said.rest))) (finished sum)
     else Err (At said.line P1)
 
--- behind an axis is another one, the first function, or `end`, which comes too early
+-- after an axis comes another one, the first function, or `end`, which is too early
 abbrev pub axes_in : {A : Type 0} → ℕ → (WeightedSum → List SaidLine → Result A ReadFault) → List Axis → List SaidLine → Result A ReadFault
 axes_in last next axes [] = Err (At last P9)
 axes_in last next axes (said ∷ behind) =
@@ -109,7 +109,7 @@ axes_in last next axes (said ∷ behind) =
     else if bytes_eq said.word (codes "end") then Err (At said.line (ended_early said.rest))
     else Err (At said.line P1)
 
--- behind `ivp 1` is an axis
+-- after `ivp 1` comes an axis
 abbrev pub domain_in : {A : Type 0} → ℕ → (WeightedSum → List SaidLine → Result A ReadFault) → List SaidLine → Result A ReadFault
 domain_in last next [] = Err (At last P9)
 domain_in last next (said ∷ behind) =

@@ -1,5 +1,5 @@
 -- How far the reader has come, line by line. It serves the reader alone: what bytes stand for is said without it.
-use Rattle.std.specs.Prelude.{ℕ, suc, IsTrue, if◌then◌else◌, List, [], ◌∷◌, length, codes, bytes_eq, Result, Ok, Err}
+use Rattle.std.specs.Prelude.{ℕ, IsTrue, if◌then◌else◌, List, [], ◌∷◌, length, codes, bytes_eq, Result, Ok, Err}
 use Rattle.moos_text.specs.declared.cause.Cause.{Cause}
 use Rattle.moos_text.specs.declared.cause.Cause.TheVariants.{P1, P9}
 use Rattle.moos_text.specs.declared.cause.ReadFault.{ReadFault}
@@ -17,9 +17,8 @@ use Rattle.ivp_cert.specs.Decisions.{with_claim, with_cut}
 use Rattle.ivp_cert.specs.Pieces.{piece_of}
 use Rattle.ivp_cert.specs.Problems.{nothing_behind, ended_early, finished, is_first, with_domain, with_function, with_piece}
 use Rattle.ivp_cert.specs.Unfinished.{UnfinishedSum}
-use Rattle.ivp_cert.specs.Words.{line_words}
 
--- what a line comes to, as the stage or the phase in which the lines are then
+-- what a line leads to, as the stage or the phase in which the lines are then
 abbrev pub as_now : {A B E : Type 0} → (A → B) → Result A E → Result B E
 as_now form read = and_then (λ value. Ok (form value)) read
 
@@ -59,11 +58,6 @@ after_word line (Ended problem) word words = Err (At line P1)
 abbrev pub stage_after : ℕ → ProblemStage → List (List ℕ) → Result ProblemStage ReadFault
 stage_after line stage [] = Ok stage
 stage_after line stage (word ∷ words) = after_word line stage word words
-
--- What the lines come to from here on, if so many were read. One line more is taken by its number and its words.
-abbrev pub after_lines : {S : Type 0} → (ℕ → S → List (List ℕ) → Result S ReadFault) → ℕ → S → List (List ℕ) → Result S ReadFault
-after_lines after lines state [] = Ok state
-after_lines after lines state (raw ∷ raws) = and_then (λ next. after_lines after (suc lines) next raws) (after (suc lines) state (line_words raw))
 
 -- the problem, if the lines come to `end`; else they end too early, which the last line is refused for
 abbrev pub whole_problem : ℕ → ProblemStage → Result WeightedSum ReadFault

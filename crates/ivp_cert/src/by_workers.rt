@@ -115,7 +115,7 @@ fn all_of(alloc: Global, answers: Vec<Result<Share, NoMemory>>) -> Result<Vec<Sh
     Ok(shares)
 }
 
-// Joins so many cuts that were dealt, in their order: the share that is first gives its next one, and then is the last.
+// Joins `many` cuts that were dealt, in their order: the share that is first gives its next one, and then is the last.
 fn joined(alloc: Global, many: usize, mut shares: Vec<Share>) -> Result<Vec<Line>, NoMemory>
     requires { 0 < length shares.items }
     ensures { IfOk result (λ lines. (cuts : List (List Line)) → length cuts ≡ many → shares.items ≡ dealt (length shares.items) cuts → lines.items ≡ flat_map (λ cut. cut) cuts) }

@@ -8,7 +8,7 @@ use crate::cert::Cert;
 use crate::words::place_of;
 use ivp_domain::{Axis, Point};
 use ivp_problem::{MOST_SUM, Problem};
-use moos_post::List;
+use moos_post::{Copied, List, NoMemory};
 use moos_text::{Cause, LineFault, next_word, read_unsigned};
 use std::alloc::Global;
 
@@ -25,6 +25,18 @@ pub struct Decision {
     pub problem: Problem,
     pub claim: Claim,
     pub cert: Cert,
+}
+
+impl Copied for Decision {
+    fn copy(&self, alloc: Global) -> Result<Decision, NoMemory> {
+        let problem = self.problem.copy(alloc)?;
+        let cert = self.cert.copy(alloc)?;
+        Ok(Decision {
+            problem,
+            claim: self.claim,
+            cert,
+        })
+    }
 }
 
 /// The numbers of a `decision` line: places, and then a sum in thousandths.

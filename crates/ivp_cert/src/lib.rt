@@ -8,7 +8,7 @@
 //! Reading order: `path`, `cert`, `claim`; `trail`, `cutting`, `subtree`, `share`, `by_workers`, `best`, `accept`, `law`; `words`,
 //! `piece`, `terms`, `unfinished`, `stage`, `read`; `line`, `phase`, `decision`; `put`, `put_problem`, `path_text`, `print`, `print_by_workers`, `printed`. Of
 //! specs/ read `Certificates`, `SaidLines`, `Problems`, `Decisions`, `Texts` and `Printed`; `Walks` serves the checker alone,
-//! `Subtrees` and `Dealing` the cut by several workers, `PathTexts` the printer, and `Stages` the reader.
+//! `Subtrees` and `Dealing` the cut by several workers, `PathTexts` the printer, `PathsKept` the paths, and `Stages` the reader.
 #![tactic(auto)]
 
 mod accept;

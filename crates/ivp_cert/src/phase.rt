@@ -88,7 +88,7 @@ impl DecisionStage {
     }
 }
 
-// In a problem is one line more of it, and behind its end what was decided.
+// In a problem comes one line more of it, and after its end what was decided.
 fn after_stage(
     alloc: Global,
     stage: ProblemStage,
@@ -112,7 +112,7 @@ fn after_stage(
     }
 }
 
-// Behind the problem is what was decided.
+// After the problem comes what was decided.
 fn after_problem(
     alloc: Global,
     problem: Problem,
@@ -160,7 +160,7 @@ fn with_line(mut decision: Decision, line: Line) -> Option<Decision>
     Some(decision)
 }
 
-// In a certificate is one line more, or its end.
+// In a certificate comes one line more, or its end.
 fn after_cuts(
     alloc: Global,
     decision: Decision,

@@ -35,7 +35,7 @@ fn slope_of(present: bool, text: &[u8]) -> Option<(i64, &[u8])>
     Some((integer_of(word, MOST_SLOPE as u64)?, rest))
 }
 
-// The slopes along so many axes, and no word behind them.
+// The slopes along the first `axes` axes, and no word behind them.
 fn slopes_of(axes: u32, text: &[u8]) -> Option<[i64; 4]>
     ensures value { result ≡ slopes_of axes (words_of text.now) }
     ensures good { IfSome result (λ slopes. IsTrue (are_slopes axes slopes)) }
@@ -61,7 +61,7 @@ fn sloped(axes: u32, area: BoxN, text: &[u8]) -> Option<Piece>
     Some(Piece { area, base, slope })
 }
 
-/// The piece over so many axes that the words of a text spell.
+/// The piece over `axes` axes that the words of a text spell.
 pub fn piece_of(axes: u32, text: &[u8]) -> Option<Piece>
     ensures value { result ≡ piece_of axes (words_of text.now) }
     ensures good { IfSome result (λ piece. IsTrue (is_base piece.base && are_slopes axes piece.slope)) }

@@ -162,8 +162,8 @@ fn texts_of<R: Threads + Sync>(
     lines: &[Line],
 ) -> Result<Vec<Option<MemSink>>, NoMemory>
     ensures many { IfOk result (λ texts. length texts.items ≡ length lines.now / CHUNK + min 1 (length lines.now % CHUNK)) }
-    ensures each { IfOk result (λ texts. (number : ℕ) (d : Option SinkState) → number < length texts.items → IfSome (slice_index_or texts.items number d)
-        (λ sink. sink.taken ≡ flat_map (line_text prefix.now) (take CHUNK (drop (number * CHUNK) lines.now)))) }
+    ensures each { IfOk result (λ texts. (number : ℕ) (d : Option SinkState) → number < length texts.items
+        → IfSome (slice_index_or texts.items number d) (λ sink. sink.taken ≡ flat_map (line_text prefix.now) (take CHUNK (drop (number * CHUNK) lines.now)))) }
 {
     let make = |_: usize, chunk: &[Line]| -> Option<MemSink>
         ensures { IfSome result (λ sink. sink.taken ≡ flat_map (line_text prefix.entry.now) chunk.now) }

@@ -137,7 +137,7 @@ fn put_weight<K: Sink>(
     put(&[prefix, b"function ", weight.bytes(), b"\n"], buffer, out)
 }
 
-// A function over so many axes: its weight, and then its pieces.
+// A function over `axes` axes: its weight, and then its pieces.
 fn put_term<K: Sink>(
     prefix: &[u8],
     axes: u32,

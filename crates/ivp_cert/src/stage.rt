@@ -119,7 +119,7 @@ fn after_start(word: &[u8], rest: &[u8]) -> Result<ProblemStage, Cause>
     }
 }
 
-// Behind the first line is an axis.
+// After the first line comes an axis.
 fn after_begun(word: &[u8], rest: &[u8]) -> Result<ProblemStage, Cause>
     ensures { result ≡ after_begun word.now (words_of rest.now) }
 {
@@ -131,7 +131,7 @@ fn after_begun(word: &[u8], rest: &[u8]) -> Result<ProblemStage, Cause>
     }
 }
 
-// Behind an axis is another one, a function or the end.
+// After an axis comes another one, a function or the end.
 fn after_axes(
     alloc: Global,
     domain: &Domain,
@@ -154,7 +154,7 @@ fn after_axes(
     }
 }
 
-// In a function is a piece of it, or another function or the end, which finish it first.
+// In a function comes a piece of it, or another function or the end, which finish it first.
 fn after_functions(
     alloc: Global,
     sum: Unfinished,

@@ -16,7 +16,7 @@ pub(crate) struct Subtree {
     pub(crate) node: Node,
 }
 
-/// The subtrees below which the whole cut lies, in order: those of the first level that has so many, or of the last level.
+/// The subtrees below which the whole cut lies, in order: those of the first level that has `many`, or of the last level.
 pub(crate) fn subtrees_of(
     alloc: Global,
     problem: &Problem,
