@@ -78,7 +78,7 @@ own_updates one = if is_some one.born then None else one.block.common.updates
 abbrev pub judged_at : List Axis → Seen → BhvSoFar → Judged
 judged_at axes seen one = judged_in axes (own_updates one) one.block.spec one.changes (if can_run one.block.common (past_so_far one) then seen.letters else [])
 
--- what is if there was no step
+-- what a step gives that wasn't made
 abbrev pub no_out : Out
 no_out = record { func = None; course = false; speed = false; depth = false; done = false; fault = None }
 

@@ -3,6 +3,7 @@ use Rattle.std.specs.Prelude.{◌≡◌, ℕ, ℤ, pos, Bool, IsTrue, if◌then�
 use Rattle.std.specs.List.{filter_map, list_any}
 use Rattle.ivp_domain.specs.declared.axis.Axis.{Axis}
 use Rattle.ivp_domain.specs.Axes.{no_axis, value_on}
+use Rattle.ivp_domain.specs.Domains.{is_point}
 use Rattle.ivp_domain.specs.declared.boxes.Point.{Point}
 use Rattle.ivp_func.specs.Functions.{Function}
 use Rattle.ivp_problem.specs.declared.term.Term.{Term}
@@ -35,6 +36,11 @@ active_problem axes showings = record { axes = axes; terms = filter_map active_t
 -- what is decided if a behaviour is active
 abbrev pub decision_made : List Axis → List TurnShown → Option Decision
 decision_made axes showings = if some_active showings then Some (best_decision (active_problem axes showings)) else None
+
+-- the decision is that on its problem, and its point is one of the domain
+pub record IsBestDecision (decision : Decision) : Type 0 where
+  pub best : decision ≡ best_decision decision.problem
+  pub point : IsTrue (is_point decision.problem.axes decision.claim.point)
 
 -- the number that a point has on the axis at this place
 abbrev pub number_at : List Axis → Point → Option ℕ → ℤ

@@ -1,4 +1,4 @@
--- What an iteration comes to, of all ticks so far.
+-- What an iteration is, by all ticks so far.
 use Rattle.std.specs.Prelude.{ℕ, zero, suc, List, Option, Some, None}
 use Rattle.helm_core.specs.declared.iteration.Update.{Update}
 use Rattle.helm_core.specs.declared.showing.TurnShown.{TurnShown}

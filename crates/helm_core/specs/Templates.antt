@@ -103,7 +103,7 @@ heard_known axes template so_far said place (Some one) =
     then answered template so_far (slice_set so_far.ones place (changed_by axes said one)) Changed
     else answered template so_far so_far.ones Refused
 
--- by the place in the list where the name is, if it does
+-- the same by the place in the list at which the name is, if it is there
 abbrev pub heard_at_place : List Axis → List Block → ℕ → Block → Spawning → NamedPairs → Option ℕ → Spawning
 heard_at_place axes blocks at template so_far said None = heard_new axes blocks at template so_far said
 heard_at_place axes blocks at template so_far said (Some place) = heard_known axes template so_far said place (slice_get so_far.ones place)

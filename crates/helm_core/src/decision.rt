@@ -10,10 +10,11 @@ ghost use Rattle.helm_core.specs.Posts.{desired, desired_speed};
 ghost use Rattle.helm_core.specs.Standings.{IsFit};
 
 use crate::allstop::{Allstop, some_active};
+use crate::decided::Decided;
 use crate::own_names::OwnNames;
 use crate::posts::add_number;
 use crate::showing::TurnShown;
-use ivp_cert::{Decision, decide};
+use ivp_cert::Decision;
 use ivp_domain::{Axis, Domain, Point};
 use ivp_problem::{Problem, Term};
 use moos_io::Gate;
@@ -28,6 +29,7 @@ pub(crate) fn decision_made<R: Threads + Wait + Sync, G: Gate>(
     alloc: Global,
     domain: Domain,
     showings: Vec<TurnShown>,
+    decided: &mut Decided,
     workers: u32,
     gate: &G,
 ) -> Result<Option<Decision>, NoMemory>
@@ -43,7 +45,7 @@ pub(crate) fn decision_made<R: Threads + Wait + Sync, G: Gate>(
     }
     let terms = active_terms(alloc, showings)?;
     let problem = problem_of(domain, terms);
-    let decision = decide(rt, alloc, problem, workers, gate)?;
+    let decision = decided.decide(rt, alloc, problem, workers, gate)?;
     Ok(Some(decision))
 }
 

@@ -14,6 +14,7 @@ ghost use Rattle.helm_core.specs.Ticks.{pairs_mailed};
 use crate::allstop::{Allstop, mentions_course, mentions_depth, mentions_speed};
 use crate::behavior::Behavior;
 use crate::behavior_list::BehaviorList;
+use crate::decided::Decided;
 use crate::decision::{add_depth, add_heading, add_speed, decision_made};
 use crate::helm_view::HelmView;
 use crate::iteration::{Iteration, Updates};
@@ -31,6 +32,7 @@ use moos_db::{Letter, Mail};
 use moos_io::Gate;
 use moos_post::{Batch, Copied, NoMemory, Regs};
 use std::alloc::Global;
+use std::mem;
 use std::sync::Wait;
 use std::thread::Threads;
 
@@ -47,6 +49,7 @@ pub struct Helm {
     allstop: Option<Allstop>,
     // When the last iteration was, in milliseconds, or 0 before the first.
     clock: u64,
+    decided: Decided,
 }
 
 impl Helm {
@@ -77,6 +80,7 @@ impl Helm {
             helm_view,
             allstop: None,
             clock: 0,
+            decided: Decided::nothing(),
         })
     }
 
@@ -131,6 +135,8 @@ impl Helm {
         ensures ticked { IfOk result (IsTicked self.old self.new stamp mail.now) }
     {
         let fresh = self.helm_view_after(alloc, mail.all())?;
+        // If memory is missing it is let go, which gives some back.
+        let mut decided = mem::replace(&mut self.decided, Decided::nothing());
         let now = self.now(&fresh);
         let (iteration, kept, allstop) = self.iterate(
             rt,
@@ -138,10 +144,11 @@ impl Helm {
             stamp,
             mail.all(),
             now,
+            &mut decided,
             workers,
             gate,
         )?;
-        self.end(stamp, fresh, kept, allstop);
+        self.end(stamp, fresh, kept, allstop, decided);
         Ok(iteration)
     }
 
@@ -154,6 +161,7 @@ impl Helm {
         stamp: u64,
         letters: &[Letter],
         now: &HelmView,
+        decided: &mut Decided,
         workers: u32,
         gate: &G,
     ) -> Result<(Iteration, Vec<Behavior>, Allstop), NoMemory>
@@ -171,7 +179,7 @@ impl Helm {
             showings.as_slice(),
         );
         let iteration = self.iteration(
-            rt, alloc, stamp, now, answers, showings, allstop, workers, gate,
+            rt, alloc, stamp, now, answers, showings, allstop, decided, workers, gate,
         )?;
         Ok((iteration, kept, allstop))
     }
@@ -202,7 +210,14 @@ impl Helm {
     }
 
     // Keeps what the next iteration asks of this one.
-    fn end(&mut self, stamp: u64, fresh: Option<HelmView>, kept: Vec<Behavior>, allstop: Allstop)
+    fn end(
+        &mut self,
+        stamp: u64,
+        fresh: Option<HelmView>,
+        kept: Vec<Behavior>,
+        allstop: Allstop,
+        decided: Decided,
+    )
         requires few { AreFew self.old.behavior_list.blocks (length kept.items) }
         requires fit { All (IsFitKept self.old.behavior_list.axes self.old.behavior_list.blocks) kept.items }
         ensures { self.new ≡ helm_after self.old stamp (unwrap_or fresh self.old.helm_view) kept.items allstop }
@@ -213,6 +228,7 @@ impl Helm {
         }
         self.allstop = Some(allstop);
         self.clock = stamp;
+        self.decided = decided;
     }
 
     // The iteration at this view, if these are the answers to letters to templates and it says this of the behaviours.
@@ -225,6 +241,7 @@ impl Helm {
         answers: Updates,
         showings: Vec<TurnShown>,
         allstop: Allstop,
+        decided: &mut Decided,
         workers: u32,
         gate: &G,
     ) -> Result<Iteration, NoMemory>
@@ -245,7 +262,7 @@ impl Helm {
             mentions_depth(all),
         );
         let domain = self.behavior_list.domain();
-        let decision = decision_made(rt, alloc, domain, showings, workers, gate)?;
+        let decision = decision_made(rt, alloc, domain, showings, decided, workers, gate)?;
         self.add_decided(alloc, &mut posts, allstop, course, speed, depth, &decision)?;
         Ok(Iteration {
             stamp,

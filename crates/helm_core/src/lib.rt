@@ -7,7 +7,7 @@
 //!
 //! Read `iteration`, `allstop`, `helm_view` for what is kept of the mails, `doer` for a behaviour by its type, `behavior` for what is kept of a behaviour, `judging`,
 //! `stepping` and `begun` for its turn, `named`, `making` and `spawning` for letters to templates, `turned` and `behavior_list` for the turns of
-//! all, `showing` and `telling` for what is said of them, `decision` for what they decide, `own_names` and `posts` for what is posted,
+//! all, `showing` and `telling` for what is said of them, `decided` and `decision` for what they decide, `own_names` and `posts` for what is posted,
 //! `wanted` for the variables that are registered for, and `helm` last; `law` says that no iteration depends on a later mail, which
 //! behaviours the list has and that no two have one name, that what is said is well formed, and that what is decided is the first point of greatest worth to all
 //! behaviours. Of specs/ read `Plans`, `Ticks`, `Behaviors`, `Templates`, `Lists`, `Names`, `PastIterations`, `Decisions`, `Posts`, `Iterations`,
@@ -18,6 +18,7 @@ mod allstop;
 mod begun;
 mod behavior;
 mod behavior_list;
+mod decided;
 mod decision;
 mod doer;
 mod helm;
