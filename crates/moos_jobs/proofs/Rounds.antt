@@ -11,8 +11,7 @@ use Rattle.moos_play.specs.Plays.{clients_in, GoesOnWith, helm_in, history_in, i
 use Rattle.moos_report.specs.declared.setup.Setup.{Setup}
 use Rattle.moos_report.specs.IterationLines.{helm_fetches, is_helm}
 use Rattle.moos_report.specs.Report.{report_text}
-use Rattle.moos_telling.proofs.Fetching.{fetched, IsNamed, IsRunWell, named_beside}
-use Rattle.moos_telling.specs.Telling.{IsHelmNamed}
+use Rattle.moos_telling.proofs.Fetching.{fetched, IsHelmNamed, IsNamed, IsRunWell, named_beside}
 use Rattle.moos_jobs.specs.Telling.{IsOfLawful}
 use Rattle.script_reader.specs.declared.script.Order.{Order}
 use Rattle.script_reader.specs.declared.script.Script.{Script}

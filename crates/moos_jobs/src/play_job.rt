@@ -21,7 +21,7 @@ use std::alloc::Global;
 use std::sync::Wait;
 use std::thread::Threads;
 
-/// Loads and reads the script, and plays it: alone, or with the mission of this name. The helm has so many workers.
+/// Loads and reads the script, and plays it: alone, or with the mission of this name. The helm has this many `workers`.
 pub fn play_files<R: Threads + Wait + Sync, F: Folder, K: Sink, G: Gate>(
     rt: &R,
     alloc: Global,
@@ -68,7 +68,7 @@ fn play_mission<R: Threads + Wait + Sync, F: Folder, K: Sink, G: Gate>(
 ) -> Status
     requires few { (1 ≤ workers) × (workers ≤ 16) }
     requires valid { IsValid script.now }
-    // Whichever job the script was loaded for, by where it stands with its files.
+    // Whichever job the script was loaded for, by where it is with its files.
     ensures ends { (turn : List (List ℕ) → FileTurn Task) (front : List (List ℕ)) → ((files : List (List ℕ)) → turn (front ++ files) ≡ helm_turn (helm_played order script.now) script.now name.now files)
         → EndsFrom outcomes (surroundings (F.told folder.old) (F.sure folder.old) (F.faults folder.old) (F.faults folder.new)
         (sinking (K.taken out.old) (K.taken out.new) (K.faults out.old) (K.faults out.new))) turn front result }

@@ -13,7 +13,7 @@ use command_line::{Status, written};
 use moos_io::{Buffer, Gate, Sink};
 use moos_play::{HelmRun, Order, Play};
 use moos_post::List;
-use moos_report::{PostLines, Setup, parts_law};
+use moos_report::{KeptText, Setup, parts_law};
 use moos_telling::{tell_end, tell_opening, tell_part};
 use script_reader::Script;
 use std::alloc::Global;
@@ -64,8 +64,8 @@ fn tell<R: Threads + Wait + Sync, K: Sink, G: Gate>(
 {
     play.front_law();
     parts_law();
-    let mut lines = PostLines::new(alloc);
-    if let Err(_) = tell_opening(rt, play, setup, &mut lines, out) {
+    let mut kept = KeptText::new(alloc);
+    if let Err(_) = tell_opening(rt, play, setup, &mut kept, out) {
         return Status::WriteFault;
     }
     let mut buffer = Buffer::new();
@@ -78,7 +78,7 @@ fn tell<R: Threads + Wait + Sync, K: Sink, G: Gate>(
             setup,
             made,
             workers,
-            &mut lines,
+            &mut kept,
             &mut buffer,
             out,
             gate,
@@ -90,7 +90,7 @@ fn tell<R: Threads + Wait + Sync, K: Sink, G: Gate>(
     }
 }
 
-// Plays the next round and tells it, if the helm has made so many iterations before, and answers how many it made in it.
+// Plays the next round and tells it, after `made` iterations of the helm, and answers how many it made in it.
 // None if no round is left. The buffer is empty before and after, and the lines that are kept are of the play's posts.
 fn tell_round<R: Threads + Wait + Sync, K: Sink, G: Gate>(
     rt: &R,
@@ -99,19 +99,19 @@ fn tell_round<R: Threads + Wait + Sync, K: Sink, G: Gate>(
     setup: &Setup,
     made: u64,
     workers: u32,
-    lines: &mut PostLines,
+    kept: &mut KeptText,
     buffer: &mut Buffer,
     out: &mut K,
     gate: &G,
 ) -> Result<Option<u64>, Status>
     requires empty { buffer.old ≡ [] }
-    requires kept { KeepsLines (clients_in play.old) (history_in play.old) lines.old }
+    requires kept { KeepsLines (clients_in play.old) (history_in play.old) kept.old }
     requires between { IsBetween play.old }
     requires named { clients_in play.old ≡ names_with (script_played play.old) (helm_in play.old) }
     requires made { made ≡ length (iterations_made play.old) }
     requires few { (1 ≤ workers) × (workers ≤ 16) }
     ensures empty { OnOk result (buffer.new ≡ []) }
-    ensures kept { OnOk result (KeepsLines (clients_in play.new) (history_in play.new) lines.new) }
+    ensures kept { OnOk result (KeepsLines (clients_in play.new) (history_in play.new) kept.new) }
     ensures between { OnOk result (IsBetween play.new) }
     ensures same { OnOk result (GoesOnWith play.old play.new) }
     ensures later { FaresOn (K.faults out.old) (K.faults out.new) }
@@ -136,7 +136,7 @@ fn tell_round<R: Threads + Wait + Sync, K: Sink, G: Gate>(
         return Ok(None);
     };
     play.front_law();
-    if let Err(_) = tell_part(rt, play, setup, &round, made, lines, buffer, out) {
+    if let Err(_) = tell_part(rt, play, setup, &round, made, kept, buffer, out) {
         return Err(Status::WriteFault);
     }
     Ok(Some(round.iterations.len() as u64))

@@ -30,7 +30,7 @@ pub record IsCommunity (names : List (List ℕ)) (history : History) : Type 0 wh
 abbrev pub is_one_line : List ℕ → Bool
 is_one_line text = list_all (λ byte. not (byte == 10)) text
 
--- Whatever is named stands on one line: the unused parameters of the setup, the mode of each iteration, the names that it tells,
+-- Whatever is named is on one line: the unused parameters of the setup, the mode of each iteration, the names that it tells,
 -- and the axes that it decides over.
 pub record StandOnLines (setup : Setup) (iterations : List Iteration) : Type 0 where
   pub unused : All (λ (unused : Unused). IsTrue (is_one_line unused.name)) setup.unused

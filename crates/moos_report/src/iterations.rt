@@ -7,9 +7,10 @@ ghost use Rattle.moos_report.specs.Parts.{BeginsWith};
 use super::behaviors::{put_errors, put_states, put_updates};
 use super::lines::put;
 use super::name_of;
+use crate::decided::LastText;
 use crate::setup::Setup;
 use helm_core::Iteration;
-use ivp_cert::{Decision, put_decision};
+use ivp_cert::Decision;
 use moos_db::Db;
 use moos_io::{Buffer, Failed, Sink};
 use moos_post::{Call, Entry};
@@ -23,6 +24,7 @@ pub(super) fn put_outcome<K: Sink>(
     iterations: &[Iteration],
     entry: &Entry,
     fetches: u64,
+    last: &mut LastText,
     buffer: &mut Buffer,
     out: &mut K,
 ) -> Result<(), Failed>
@@ -32,10 +34,10 @@ pub(super) fn put_outcome<K: Sink>(
     if !is_helm_post(db, entry) {
         return Ok(());
     }
-    put_current(setup, first, iterations, fetches, buffer, out)
+    put_current(setup, first, iterations, fetches, last, buffer, out)
 }
 
-// How often the helm has fetched before entry `from`, if so many iterations are given. Only if a part begins within a tick,
+// How often the helm has fetched before entry `from`, if `many` iterations are given. Only if a part begins within a tick,
 // or with the opening, is what is before it walked.
 pub(super) fn fetches_before(db: &Db, from: u64, first: u64, many: usize) -> u64
     requires { BeginsWith db.now.names (take from db.now.history) first many (drop from db.now.history) }
@@ -108,12 +110,13 @@ fn is_helm(db: &Db, client: u32) -> bool
     name_of(db, client) == b"pHelmIvP".as_slice()
 }
 
-// The iteration that the helm is in after so many fetches, if it is among these, which begin with the number `first`.
+// The iteration that the helm is in after this many fetches, if it is among these, which begin with the number `first`.
 fn put_current<K: Sink>(
     setup: &Setup,
     first: u64,
     iterations: &[Iteration],
     fetches: u64,
+    last: &mut LastText,
     buffer: &mut Buffer,
     out: &mut K,
 ) -> Result<(), Failed>
@@ -125,7 +128,7 @@ fn put_current<K: Sink>(
     }
     let number = fetches - 1;
     match iterations.get((number - first) as usize) {
-        Some(iteration) => put_iteration(setup, number, iteration, buffer, out),
+        Some(iteration) => put_iteration(setup, number, iteration, last, buffer, out),
         None => Ok(()),
     }
 }
@@ -135,6 +138,7 @@ fn put_iteration<K: Sink>(
     setup: &Setup,
     number: u64,
     iteration: &Iteration,
+    last: &mut LastText,
     buffer: &mut Buffer,
     out: &mut K,
 ) -> Result<(), Failed>
@@ -146,12 +150,13 @@ fn put_iteration<K: Sink>(
     put_updates(iteration.updates.all(), buffer, out)?;
     put_states(iteration.states.all(), buffer, out)?;
     put_errors(iteration.faults.all(), buffer, out)?;
-    put_decided(&iteration.decision, buffer, out)
+    put_decided(&iteration.decision, last, buffer, out)
 }
 
-// What was decided, each line behind `%% `.
+// What was decided, each line behind `%% `, by the text that was printed last if that is of the same decision.
 fn put_decided<K: Sink>(
     decision: &Option<Decision>,
+    last: &mut LastText,
     buffer: &mut Buffer,
     out: &mut K,
 ) -> Result<(), Failed>
@@ -159,7 +164,7 @@ fn put_decided<K: Sink>(
         result (decided_text decision.now) }
 {
     match decision {
-        Some(decision) => put_decision(b"%% ", decision, buffer, out),
+        Some(decision) => last.put(decision, buffer, out),
         None => put(&[b"%% none\n"], buffer, out),
     }
 }

@@ -1,9 +1,10 @@
-// The lines of posts, kept as they were printed: what many hear is formatted once.
+// What a report keeps of what it printed: the lines of posts, since what many hear is formatted once, and the last decision's text.
 ghost use Rattle.std.specs.Prelude.{◌≡◌, ◌+◌, ◌<◌, ◌≤◌, ◌^◌, ◌++◌, ◌∷◌, ◌⊎◌, [], ℕ, List, Some, length, map, slice_get, take, unwrap_or};
 ghost use Rattle.std.specs.List.{concat};
 ghost use Rattle.moos_report.specs.Lines.{AreLines, IsLineOrNone, StandAt};
 ghost use Rattle.moos_report.specs.Report.{said_text};
 
+use crate::decided::LastText;
 use crate::lines::plain_run;
 use moos_post::{Pair, Value};
 use moos_text::{print_milli, print_unsigned};
@@ -113,10 +114,10 @@ fn put_at(bytes: &mut [u8], place: usize, piece: &[u8])
     bytes[place..place + piece.len()].copy_from_slice(piece);
 }
 
-/// The lines of the first posts of a database, as they were printed, 48 bytes for each. Memory is taken for them if there is some,
-/// and what isn't kept is formatted anew. Contracts see the lines; one that isn't kept is empty.
+// The lines of the first posts of a database, as they were printed, 48 bytes for each. Memory is taken for them if there is some,
+// and what isn't kept is formatted anew. Contracts see the lines; one that isn't kept is empty.
 #[derive(Drop)]
-pub struct PostLines {
+pub(crate) struct PostLines {
     lines: Option<Vec<PostLine>>,
 }
 
@@ -136,8 +137,8 @@ impl PostLines {
         PostLines { lines: None }
     }
 
-    /// No lines yet.
-    pub fn new(alloc: Global) -> PostLines
+    // No lines yet.
+    pub(crate) fn new(alloc: Global) -> PostLines
         ensures { result ≡ [] }
     {
         PostLines {
@@ -184,6 +185,44 @@ impl PostLines {
         for pair in pairs {
             self.keep(number, PostLine::of_post(stamp, source, pair));
             number += 1;
+        }
+    }
+}
+
+/// What a report keeps of what it printed, so that it isn't formatted anew: the lines of posts, and the text of the last decision up to
+/// 64 KiB. Memory is taken if there is some. Contracts see the lines of posts; one that isn't kept is empty.
+#[derive(Drop)]
+pub struct KeptText {
+    pub(crate) lines: PostLines,
+    pub(crate) last: LastText,
+}
+
+impl Model for KeptText {
+    ghost use Rattle.std.specs.Prelude.{List, ℕ};
+
+    ghost Value = { List (List ℕ) };
+
+    ghost view = { λ kept. kept.lines };
+}
+
+impl KeptText {
+    // Nothing, and nothing is ever kept.
+    pub(crate) fn none() -> KeptText
+        ensures { result ≡ [] }
+    {
+        KeptText {
+            lines: PostLines::none(),
+            last: LastText::none(),
+        }
+    }
+
+    /// Nothing yet.
+    pub fn new(alloc: Global) -> KeptText
+        ensures { result ≡ [] }
+    {
+        KeptText {
+            lines: PostLines::new(alloc),
+            last: LastText::new(alloc),
         }
     }
 }

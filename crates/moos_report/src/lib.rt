@@ -3,13 +3,14 @@
 //!
 //! The contract for the layers above: the report, or a part of one, goes to a sink whole, or a front of it if the sink
 //! fails, and then the sink's faults rose. The text is gathered in a buffer on the stack, and what is full goes on. No memory
-//! is taken but for the lines of posts that a caller lets be kept, and what there is no memory for isn't kept.
+//! is taken but for the text that a caller lets be kept, and what there is no memory for isn't kept.
 //!
 //! Reading order: `specs/Report` and `specs/IterationLines` say what each line is; here are the entries and their parts, in
-//! `posts` the posts and letters of these, in `kept` the lines of posts that are kept, in `iterations` what follows an entry of
-//! the helm, in `behaviors` what an iteration tells of its behaviours, in `lines` the lines, in `numeral` a number's digits, which
-//! are counted up; `parts` has the report at once, and piece by piece while its history grows. `law` says that a report tells its
-//! history, also with a text behind it, and that what is written so far is how the report of each longer history begins.
+//! `posts` the posts and letters of these, in `kept` what is kept of the text, in `iterations` what follows an entry of the helm, in
+//! `behaviors` what an iteration tells of its behaviours, in `decided` the text of a decision, which is kept, in `same` whether two
+//! decisions are the same, in `lines` the lines, in `numeral` a number's digits, which are counted up; `parts` has the report at once,
+//! and piece by piece while its history grows. `law` says that a report tells its history, also with a text behind it, and that what is
+//! written so far is how the report of each longer history begins.
 #![tactic(auto)]
 
 ghost use Rattle.std.specs.Prelude.{◌≡◌, ◌++◌, [], ◌∷◌, Some, length, take, drop, flat_map, codes, decimal, slice_get};
@@ -22,6 +23,7 @@ ghost use Rattle.moos_report.specs.Lines.{KeepsLines};
 ghost use Rattle.moos_report.specs.Report.{clients_text, entries_text, entry_text, call_text, reg_text, unused_text};
 
 mod behaviors;
+mod decided;
 mod iterations;
 mod kept;
 mod law;
@@ -29,10 +31,12 @@ mod lines;
 mod numeral;
 mod parts;
 mod posts;
+mod same;
 mod setup;
 
 use self::iterations::{fetches_after, fetches_before, put_outcome};
-pub use self::kept::PostLines;
+pub use self::kept::KeptText;
+use self::kept::PostLines;
 pub use self::law::{parts_law, report_law, reports_law};
 use self::lines::{put, put_client, put_reg, put_unused};
 pub use self::parts::{
@@ -78,13 +82,13 @@ fn put_entries<K: Sink>(
     from: u64,
     first: u64,
     iterations: &[Iteration],
-    lines: &mut PostLines,
+    kept: &mut KeptText,
     buffer: &mut Buffer,
     out: &mut K,
 ) -> Result<(), Failed>
     requires first { BeginsWith db.now.names (take from db.now.history) first (length iterations.now) (drop from db.now.history) }
-    requires kept { KeepsLines db.now.names db.now.history lines.old }
-    ensures kept { KeepsLines db.now.names db.now.history lines.new }
+    requires kept { KeepsLines db.now.names db.now.history kept.old }
+    ensures kept { KeepsLines db.now.names db.now.history kept.new }
     ensures wrote { Wrote (way (K.taken out.old) buffer.old (K.faults out.old)) (way (K.taken out.new) buffer.new (K.faults out.new))
         result (entries_text setup.now first iterations.now db.now.names (take from db.now.history) (drop from db.now.history)) }
 {
@@ -93,9 +97,19 @@ fn put_entries<K: Sink>(
     let mut fetches = fetches_before(db, from, first, iterations.len());
     for k in from..db.entries() {
         let entry = db.entry(k);
-        keep_lines(db, k, entry, posts, lines);
-        put_entry(db, k, entry, posts, lines, buffer, out)?;
-        put_outcome(setup, db, first, iterations, entry, fetches, buffer, out)?;
+        keep_lines(db, k, entry, posts, &mut kept.lines);
+        put_entry(db, k, entry, posts, &kept.lines, buffer, out)?;
+        put_outcome(
+            setup,
+            db,
+            first,
+            iterations,
+            entry,
+            fetches,
+            &mut kept.last,
+            buffer,
+            out,
+        )?;
         posts += posts_in(entry);
         fetches = fetches_after(db, entry, fetches);
     }

@@ -9,7 +9,7 @@ ghost use Rattle.moos_report.specs.Report.{end_text, entries_text, head_text, re
 
 use super::lines::{put, put_end};
 use super::{put_clients, put_entries, put_unused_list};
-use crate::kept::PostLines;
+use crate::kept::KeptText;
 use crate::setup::Setup;
 use helm_core::Iteration;
 use moos_db::Db;
@@ -29,10 +29,11 @@ pub fn report<K: Sink>(
     ensures later { FaresOn (K.faults out.old) (K.faults out.new) }
     ensures rose { OnErr result (Fell (K.faults out.old) (K.faults out.new) (K.taken out.new)) }
 {
-    report_with(setup, db, iterations, PostLines::none(), out)
+    report_with(setup, db, iterations, KeptText::none(), out)
 }
 
-/// Writes the same, and keeps the lines of posts on the way if there is memory, so that one that many hear is formatted once.
+/// Writes the same, and keeps on the way what is printed again if there is memory: the line of a post that many hear is formatted once,
+/// and so is a decision that iterations in a row have.
 pub fn report_keeping<K: Sink>(
     alloc: Global,
     setup: &Setup,
@@ -45,26 +46,26 @@ pub fn report_keeping<K: Sink>(
     ensures later { FaresOn (K.faults out.old) (K.faults out.new) }
     ensures rose { OnErr result (Fell (K.faults out.old) (K.faults out.new) (K.taken out.new)) }
 {
-    report_with(setup, db, iterations, PostLines::new(alloc), out)
+    report_with(setup, db, iterations, KeptText::new(alloc), out)
 }
 
-// Writes the report, if no line was kept so far.
+// Writes the report, if nothing was kept so far.
 fn report_with<K: Sink>(
     setup: &Setup,
     db: &Db,
     iterations: &[Iteration],
-    lines: PostLines,
+    kept: KeptText,
     out: &mut K,
 ) -> Result<(), Failed>
-    requires { lines ≡ [] }
+    requires { kept ≡ [] }
     ensures ok { OnOk result (Took (K.taken out.old) (K.taken out.new) (report_text setup.now db.now.names db.now.history iterations.now)) }
     ensures front { OnErr result (TookFront (K.taken out.old) (K.taken out.new) (report_text setup.now db.now.names db.now.history iterations.now)) }
     ensures later { FaresOn (K.faults out.old) (K.faults out.new) }
     ensures rose { OnErr result (Fell (K.faults out.old) (K.faults out.new) (K.taken out.new)) }
 {
     report_head(setup, db, out)?;
-    let (mut lines, mut buffer) = (lines, Buffer::new());
-    report_part_through(setup, db, 0, 0, iterations, &mut lines, &mut buffer, out)?;
+    let (mut kept, mut buffer) = (kept, Buffer::new());
+    report_part_through(setup, db, 0, 0, iterations, &mut kept, &mut buffer, out)?;
     report_end(db, out)?;
     Ok(())
 }
@@ -110,7 +111,7 @@ pub fn report_part<K: Sink>(
     ensures later { FaresOn (K.faults out.old) (K.faults out.new) }
     ensures rose { OnErr result (Fell (K.faults out.old) (K.faults out.new) (K.taken out.new)) }
 {
-    let mut lines = PostLines::none();
+    let mut kept = KeptText::none();
     let mut buffer = Buffer::new();
     report_part_through(
         setup,
@@ -118,27 +119,27 @@ pub fn report_part<K: Sink>(
         from,
         first,
         iterations,
-        &mut lines,
+        &mut kept,
         &mut buffer,
         out,
     )
 }
 
-/// Writes the same through an empty buffer, which is empty again after Ok, and the lines of posts are kept if there is memory: who
-/// writes part after part makes one buffer and one list of lines for all.
+/// Writes the same through an empty buffer, which is empty again after Ok, and keeps what is printed again if there is memory: who
+/// writes part after part makes one buffer and one `KeptText` for all.
 pub fn report_part_through<K: Sink>(
     setup: &Setup,
     db: &Db,
     from: u64,
     first: u64,
     iterations: &[Iteration],
-    lines: &mut PostLines,
+    kept: &mut KeptText,
     buffer: &mut Buffer,
     out: &mut K,
 ) -> Result<(), Failed>
     requires first { BeginsWith db.now.names (take from db.now.history) first (length iterations.now) (drop from db.now.history) }
     requires empty { buffer.old ≡ [] }
-    requires kept { KeepsLines db.now.names db.now.history lines.old }
+    requires kept { KeepsLines db.now.names db.now.history kept.old }
     ensures ok { OnOk result (Took (K.taken out.old) (K.taken out.new)
         (entries_text setup.now first iterations.now db.now.names (take from db.now.history) (drop from db.now.history))) }
     ensures front { OnErr result (TookFront (K.taken out.old) (K.taken out.new)
@@ -146,9 +147,9 @@ pub fn report_part_through<K: Sink>(
     ensures later { FaresOn (K.faults out.old) (K.faults out.new) }
     ensures rose { OnErr result (Fell (K.faults out.old) (K.faults out.new) (K.taken out.new)) }
     ensures empty { OnOk result (buffer.new ≡ []) }
-    ensures kept { KeepsLines db.now.names db.now.history lines.new }
+    ensures kept { KeepsLines db.now.names db.now.history kept.new }
 {
-    put_entries(setup, db, from, first, iterations, lines, buffer, out)?;
+    put_entries(setup, db, from, first, iterations, kept, buffer, out)?;
     buffer.flush(out)?;
     Ok(())
 }

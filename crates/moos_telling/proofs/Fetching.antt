@@ -21,9 +21,13 @@ use Rattle.moos_play.specs.Lawful.{heard_of, helm_number, names_with, opening_of
 use Rattle.moos_play.specs.Plays.{clients_in, HasSteeredSoFar, HasTicked, helm_in, history_in, IsRunFor, iterations_by, iterations_made, Playing, script_played}
 use Rattle.moos_report.specs.IterationLines.{helm_fetches, is_helm, is_helm_fetch, is_helm_post, is_posting}
 use Rattle.moos_report.specs.Parts.{EndsWithin}
-use Rattle.moos_telling.specs.Telling.{IsHelmNamed}
 use Rattle.script_reader.specs.declared.script.Script.{Script}
 use Rattle.script_reader.specs.Validity.{are_clients, IsValid}
+
+-- among these names the helm's is at its number, if there is a helm, and nowhere else
+abbrev pub IsHelmNamed : List (List ℕ) → Script → Option HelmSetup → Type 0
+IsHelmNamed names script None = (client : ℕ) → is_helm names client ≡ false
+IsHelmNamed names script (Some helm) = (client : ℕ) → is_helm names client ≡ (client == helm_number script)
 
 -- a test that fails
 not_true : (b : Bool) → not b ≡ true → b ≡ false

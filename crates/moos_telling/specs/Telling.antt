@@ -1,25 +1,17 @@
 -- What is written of a play as it comes.
-use Rattle.std.specs.Prelude.{◌≡◌, ℕ, ◌⊎◌, ◌==◌, false, List, Option, None, Some}
+use Rattle.std.specs.Prelude.{ℕ, ◌⊎◌, List, Option}
 use Rattle.moos_io.specs.Faults.{Fell}
 use Rattle.moos_io.specs.Pieces.{Took, TookFront}
-use Rattle.moos_play.specs.Lawful.{helm_number, HelmSetup}
 use Rattle.moos_play.specs.Plays.{clients_in, history_in, iterations_made, Playing}
 use Rattle.moos_report.specs.declared.setup.Setup.{Setup}
-use Rattle.moos_report.specs.IterationLines.{is_helm}
 use Rattle.moos_report.specs.Parts.{front_text}
 use Rattle.command_line.specs.declared.status.Status.{Status}
 use Rattle.command_line.specs.declared.status.Status.TheVariants.{Done, WriteFault, NoMemory}
 use Rattle.command_line.specs.Endings.{IsUntouched, Sinking}
-use Rattle.script_reader.specs.declared.script.Script.{Script}
 
 -- between two rounds: what is printed of the play so far was written
 abbrev pub IsToldSoFar : Setup → Option (List ℕ) → Option (List ℕ) → Playing → Type 0
 IsToldSoFar setup before after play = Took before after (front_text setup (clients_in play) (history_in play) (iterations_made play))
-
--- among these names the helm's is at its number, if there is a helm, and nowhere else
-abbrev pub IsHelmNamed : List (List ℕ) → Script → Option HelmSetup → Type 0
-IsHelmNamed names script None = (client : ℕ) → is_helm names client ≡ false
-IsHelmNamed names script (Some helm) = (client : ℕ) → is_helm names client ≡ (client == helm_number script)
 
 -- the sink took one of these texts whole
 pub record ToldAll (MayBe : List ℕ → Type 0) (sink : Sinking) : Type 0 where

@@ -11,21 +11,21 @@ ghost use Rattle.moos_report.specs.Report.{end_text, entries_text};
 use moos_db::Db;
 use moos_io::{Buffer, Failed, Sink};
 use moos_play::{Play, Round};
-use moos_report::{PostLines, Setup, report_end, report_head, report_part_through};
+use moos_report::{KeptText, Setup, report_end, report_head, report_part_through};
 use std::sync::Wait;
 
-/// Tells how a play begins: its clients, and the entries so far, among which no iteration ends. The lines of posts are kept if
+/// Tells how a play begins: its clients, and the entries so far, among which no iteration ends. What is printed again is kept if
 /// there is memory.
 pub fn tell_opening<R: Wait, K: Sink>(
     rt: &R,
     play: &mut Play,
     setup: &Setup,
-    lines: &mut PostLines,
+    kept: &mut KeptText,
     out: &mut K,
 ) -> Result<(), Failed>
     requires seated { IsSeated play.old }
-    requires kept { KeepsLines (clients_in play.old) (history_in play.old) lines.old }
-    ensures kept { KeepsLines (clients_in play.old) (history_in play.old) lines.new }
+    requires kept { KeepsLines (clients_in play.old) (history_in play.old) kept.old }
+    ensures kept { KeepsLines (clients_in play.old) (history_in play.old) kept.new }
     ensures same { play.new ≡ play.old }
     ensures ok { OnOk result (Took (K.taken out.old) (K.taken out.new) (front_text setup.now (clients_in play.old) (history_in play.old) [])) }
     ensures front { OnErr result (TookFront (K.taken out.old) (K.taken out.new) (front_text setup.now (clients_in play.old) (history_in play.old) [])) }
@@ -33,7 +33,7 @@ pub fn tell_opening<R: Wait, K: Sink>(
     ensures rose { OnErr result (Fell (K.faults out.old) (K.faults out.new) (K.taken out.new)) }
 {
     let held = play.hold(rt);
-    let told = report_front(setup, held.value(), lines, out);
+    let told = report_front(setup, held.value(), kept, out);
     play.put_back(held);
     told
 }
@@ -42,11 +42,11 @@ pub fn tell_opening<R: Wait, K: Sink>(
 fn report_front<K: Sink>(
     setup: &Setup,
     db: &Db,
-    lines: &mut PostLines,
+    kept: &mut KeptText,
     out: &mut K,
 ) -> Result<(), Failed>
-    requires { KeepsLines db.now.names db.now.history lines.old }
-    ensures kept { KeepsLines db.now.names db.now.history lines.new }
+    requires { KeepsLines db.now.names db.now.history kept.old }
+    ensures kept { KeepsLines db.now.names db.now.history kept.new }
     ensures ok { OnOk result (Took (K.taken out.old) (K.taken out.new) (front_text setup.now db.now.names db.now.history [])) }
     ensures front { OnErr result (TookFront (K.taken out.old) (K.taken out.new) (front_text setup.now db.now.names db.now.history [])) }
     ensures later { FaresOn (K.faults out.old) (K.faults out.new) }
@@ -56,27 +56,27 @@ fn report_front<K: Sink>(
         return Err(failed);
     }
     let mut buffer = Buffer::new();
-    report_part_through(setup, db, 0, 0, &[], lines, &mut buffer, out)
+    report_part_through(setup, db, 0, 0, &[], kept, &mut buffer, out)
 }
 
-/// Tells what a round brought, if the helm has made so many iterations before, through an empty buffer: the entries from the
-/// round's first one on, and its iterations behind those that end them. The lines of posts are kept if there is memory.
+/// Tells what a round brought, after `made` iterations of the helm, through an empty buffer: the entries from the
+/// round's first one on, and its iterations behind those that end them. What is printed again is kept if there is memory.
 pub fn tell_part<R: Wait, K: Sink>(
     rt: &R,
     play: &mut Play,
     setup: &Setup,
     round: &Round,
     made: u64,
-    lines: &mut PostLines,
+    kept: &mut KeptText,
     buffer: &mut Buffer,
     out: &mut K,
 ) -> Result<(), Failed>
     requires empty { buffer.old ≡ [] }
     requires seated { IsSeated play.old }
     requires fetched { helm_fetches (clients_in play.old) (take round.now.from (history_in play.old)) ≡ made }
-    requires kept { KeepsLines (clients_in play.old) (history_in play.old) lines.old }
+    requires kept { KeepsLines (clients_in play.old) (history_in play.old) kept.old }
     ensures empty { OnOk result (buffer.new ≡ []) }
-    ensures kept { KeepsLines (clients_in play.old) (history_in play.old) lines.new }
+    ensures kept { KeepsLines (clients_in play.old) (history_in play.old) kept.new }
     ensures same { play.new ≡ play.old }
     ensures ok { OnOk result (Took (K.taken out.old) (K.taken out.new)
         (entries_text setup.now made round.now.iterations (clients_in play.old) (take round.now.from (history_in play.old)) (drop round.now.from (history_in play.old)))) }
@@ -93,7 +93,7 @@ pub fn tell_part<R: Wait, K: Sink>(
         round.from,
         made,
         iterations,
-        lines,
+        kept,
         buffer,
         out,
     );

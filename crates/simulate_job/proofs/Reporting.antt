@@ -12,8 +12,7 @@ use Rattle.moos_simulate.specs.declared.gear.Gear.{Gear}
 use Rattle.moos_simulate.specs.declared.vehicle.Vehicle.{Vehicle}
 use Rattle.moos_simulate.specs.Sailing.{IsSimulating}
 use Rattle.moos_simulate.specs.Simulated.{gear_names, IsSimulated, vehicle_names}
-use Rattle.moos_telling.proofs.Fetching.{IsNamed, named_beside}
-use Rattle.moos_telling.specs.Telling.{IsHelmNamed}
+use Rattle.moos_telling.proofs.Fetching.{IsHelmNamed, IsNamed, named_beside}
 use Rattle.moos_text.specs.declared.cause.ReadFault.{ReadFault}
 use Rattle.moos_text.specs.declared.cause.ReadFault.TheVariants.{At, NoMemory as Unread}
 use Rattle.moos_text.specs.Refusals.{and_then, IsFirst}

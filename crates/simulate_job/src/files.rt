@@ -27,7 +27,7 @@ use std::sync::Wait;
 use std::thread::Threads;
 
 /// Loads and reads the script, the mission, the behaviour file that it names, the vehicle file, and the contacts file, if one is
-/// named, plays the script beside the vehicle, and writes the report as it comes. The helm has so many workers.
+/// named, plays the script beside the vehicle, and writes the report as it comes. The helm has this many `workers`.
 pub fn simulate<R: Threads + Wait + Sync, F: Folder, K: Sink, G: Gate>(
     rt: &R,
     alloc: Global,
@@ -73,7 +73,7 @@ fn with_helm<R: Threads + Wait + Sync, F: Folder, K: Sink, G: Gate>(
     requires few { (1 ≤ workers) × (workers ≤ 16) }
     requires valid { IsValid script.now }
     requires apart { list_any (has_name (vehicle_names (is_some contacts.now))) script.now.names ≡ false }
-    // Wherever the job stood before, by where it stands with its files.
+    // Wherever the job was before, by where it is with its files.
     ensures ends { (turn : List (List ℕ) → FileTurn Simulation) (front : List (List ℕ))
         → ((files : List (List ℕ)) → turn (front ++ files) ≡ helm_turn (vehicle_turn script.now vehicle.now contacts.now) script.now name.now files)
         → EndsFrom simulate_outcomes (surroundings (F.told folder.old) (F.sure folder.old) (F.faults folder.old) (F.faults folder.new)
@@ -105,7 +105,7 @@ fn with_vehicle<R: Threads + Wait + Sync, F: Folder, K: Sink, G: Gate>(
     requires valid { IsValid script.now }
     requires apart { list_any (has_name (vehicle_names (is_some contacts.now))) script.now.names ≡ false }
     requires files { AreValidFiles files }
-    // Wherever the job stood before, by where it stands with its files.
+    // Wherever the job was before, by where it is with its files.
     ensures ends { (turn : List (List ℕ) → FileTurn Simulation) (front : List (List ℕ))
         → ((more : List (List ℕ)) → turn (front ++ more) ≡ vehicle_turn script.now name.now contacts.now files more)
         → EndsFrom simulate_outcomes (surroundings (F.told folder.old) (F.sure folder.old) (F.faults folder.old) (F.faults folder.new)
@@ -141,7 +141,7 @@ fn with_contacts<R: Threads + Wait + Sync, F: Folder, K: Sink, G: Gate>(
     requires valid { IsValid script.now }
     requires apart { list_any (has_name (vehicle_names (is_some contacts.now))) script.now.names ≡ false }
     requires files { AreValidFiles files }
-    // Wherever the job stood before, by where it stands with its files.
+    // Wherever the job was before, by where it is with its files.
     ensures ends { (turn : List (List ℕ) → FileTurn Simulation) (front : List (List ℕ))
         → ((more : List (List ℕ)) → turn (front ++ more) ≡ contacts_turn script.now files contacts.now craft more)
         → EndsFrom simulate_outcomes (surroundings (F.told folder.old) (F.sure folder.old) (F.faults folder.old) (F.faults folder.new)

@@ -15,7 +15,7 @@ ghost use Rattle.simulate_job.specs.Simulating.{IsOfSimulation, IsVoyage, Simula
 use command_line::{Status, written};
 use moos_io::{Buffer, Gate, Sink};
 use moos_play::{HelmRun, Order, Play};
-use moos_report::{PostLines, Setup, parts_law};
+use moos_report::{KeptText, Setup, parts_law};
 use moos_simulate::{Gear, Vehicle, vehicle_names};
 use moos_telling::{tell_end, tell_opening, tell_part};
 use script_reader::Script;
@@ -88,8 +88,8 @@ fn tell<R: Threads + Wait + Sync, K: Sink, G: Gate>(
     parts_law();
     vehicle.front_law(play);
     play.front_law();
-    let mut lines = PostLines::new(alloc);
-    if let Err(_) = tell_opening(rt, play, setup, &mut lines, out) {
+    let mut kept = KeptText::new(alloc);
+    if let Err(_) = tell_opening(rt, play, setup, &mut kept, out) {
         return Status::WriteFault;
     }
     let mut buffer = Buffer::new();
@@ -103,7 +103,7 @@ fn tell<R: Threads + Wait + Sync, K: Sink, G: Gate>(
             setup,
             made,
             workers,
-            &mut lines,
+            &mut kept,
             &mut buffer,
             out,
             gate,
@@ -115,7 +115,7 @@ fn tell<R: Threads + Wait + Sync, K: Sink, G: Gate>(
     }
 }
 
-// Plays the next round and tells it, if the helm has made so many iterations before, and answers how many it made in it.
+// Plays the next round and tells it, after `made` iterations of the helm, and answers how many it made in it.
 // None if no round is left. The buffer is empty before and after, and the lines that are kept are of the play's posts.
 fn tell_round<R: Threads + Wait + Sync, K: Sink, G: Gate>(
     rt: &R,
@@ -125,18 +125,18 @@ fn tell_round<R: Threads + Wait + Sync, K: Sink, G: Gate>(
     setup: &Setup,
     made: u64,
     workers: u32,
-    lines: &mut PostLines,
+    kept: &mut KeptText,
     buffer: &mut Buffer,
     out: &mut K,
     gate: &G,
 ) -> Result<Option<u64>, Status>
     requires empty { buffer.old ≡ [] }
-    requires kept { KeepsLines (clients_in play.old) (history_in play.old) lines.old }
+    requires kept { KeepsLines (clients_in play.old) (history_in play.old) kept.old }
     requires simulating { IsSimulating vehicle.old play.old }
     requires made { made ≡ length (iterations_made play.old) }
     requires few { (1 ≤ workers) × (workers ≤ 16) }
     ensures empty { OnOk result (buffer.new ≡ []) }
-    ensures kept { OnOk result (KeepsLines (clients_in play.new) (history_in play.new) lines.new) }
+    ensures kept { OnOk result (KeepsLines (clients_in play.new) (history_in play.new) kept.new) }
     ensures simulating { OnOk result (IsSimulating vehicle.new play.new) }
     ensures gear { OnOk result (vehicle.new.gear ≡ vehicle.old.gear) }
     ensures same { OnOk result (GoesOnWith play.old play.new) }
@@ -164,7 +164,7 @@ fn tell_round<R: Threads + Wait + Sync, K: Sink, G: Gate>(
     };
     vehicle.front_law(play);
     play.front_law();
-    if let Err(_) = tell_part(rt, play, setup, &round, made, lines, buffer, out) {
+    if let Err(_) = tell_part(rt, play, setup, &round, made, kept, buffer, out) {
         return Err(Status::WriteFault);
     }
     Ok(Some(round.iterations.len() as u64))

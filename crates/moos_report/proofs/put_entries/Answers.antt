@@ -1,6 +1,7 @@
-use Rattle.std.proofs.Common.{◌+◌, refl, arith, take, drop}
+use Rattle.std.proofs.Common.{◌+◌, refl, arith, take, drop, subst, sym}
 use Rattle.moos_db.proofs.Growth.{posts-more, posts-take}
 use Rattle.moos_report.specs.IterationLines.{is_helm_fetch}
+use Rattle.moos_report.specs.Lines.{KeepsLines}
 use Rattle.moos_report.specs.Report.{entries_text}
 use Rattle.moos_report.proofs.Reporting.{entries_due, fetches_more, once_at_most, outcome_counted, wrote_err}
 use Rattle.moos_io.proofs.Passages.{leads_start, leads_on, leads_failed}
@@ -13,7 +14,7 @@ loop-k-init g c =
       c.posts_before-posts.ensures,
       c.fetches_before-fetches.ensures.few,
       c.fetches_before-fetches.ensures.counted,
-      c.requires.kept,
+      subst (KeepsLines c.args.db.now.names history) (sym c.kept.view_is) c.requires.kept,
     )
 
 pub returns-in_err-put_entry-clause-wrote : goal.returns-in_err-put_entry-clause-wrote

@@ -16,4 +16,4 @@ invariant-loop-k g l =
     × (l.posts ≡ length (posts_of (take l.k l.db.history)))
     × (l.fetches ≤ l.k)
     × (0 < length l.iterations → l.fetches ≡ helm_fetches l.db.names (take l.k l.db.history))
-    × KeepsLines l.db.names l.db.history l.lines
+    × KeepsLines l.db.names l.db.history l.kept-inside.lines

@@ -17,7 +17,7 @@ use Rattle.moos_telling.specs.Telling.{IsToldSoFar, Tells}
 use Rattle.moos_jobs.proofs.telling.tell.Goals as goal
 
 pub tell_opening-requires-clause-kept : goal.tell_opening-requires-clause-kept
-tell_opening-requires-clause-kept g c = no_lines (clients_in c.args.play.now) (history_in c.args.play.now) _ c.new-lines.ensures
+tell_opening-requires-clause-kept g c = no_lines (clients_in c.args.play.now) (history_in c.args.play.now) _ c.new-kept.ensures
 
 pub returns-in-Err : goal.returns-in-Err
 returns-in-Err g c =
@@ -44,7 +44,7 @@ loop-more-init g c =
     let none = none_made play well c.requires.named c.requires.begun in
     record {
       empty = c.new-buffer.ensures;
-      kept = subst (λ (play : Play). KeepsLines (clients_in play) (history_in play) c.tell_opening.new.lines) same c.tell_opening.ensures.kept;
+      kept = subst (λ (play : Play). KeepsLines (clients_in play) (history_in play) c.tell_opening.new.kept) same c.tell_opening.ensures.kept;
       between = subst IsBetween same c.requires.between;
       named = subst IsAlone same c.requires.named;
       on = subst HasCompletion same c.front_law.ensures.front;

@@ -10,7 +10,7 @@ use Rattle.moos_jobs.proofs.telling.tell.Given as goal
 abbrev pub invariant-loop-more : goal.invariant-loop-more
 invariant-loop-more g l = record {
   empty : l.buffer ≡ [];
-  kept : KeepsLines (clients_in l.play) (history_in l.play) l.lines;
+  kept : KeepsLines (clients_in l.play) (history_in l.play) l.kept;
   between : IsBetween l.play;
   named : IsAlone l.play;
   on : HasCompletion l.play;

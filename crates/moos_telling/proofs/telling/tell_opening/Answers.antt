@@ -11,13 +11,13 @@ pub report_front-told-requires : goal.report_front-told-requires
 report_front-told-requires g c =
     let names = ap (λ (db : Db). db.names) c.value.ensures ∙ c.hold-held.ensures.names in
     let history = ap (λ (db : Db). db.history) c.value.ensures ∙ c.hold-held.ensures.history in
-    lines_as c.args.lines.now (sym names) (sym history) c.requires.kept
+    lines_as c.args.kept.now (sym names) (sym history) c.requires.kept
 
 pub returns-clause-kept : goal.returns-clause-kept
 returns-clause-kept g c =
     let names = ap (λ (db : Db). db.names) c.value.ensures ∙ c.hold-held.ensures.names in
     let history = ap (λ (db : Db). db.history) c.value.ensures ∙ c.hold-held.ensures.history in
-    lines_as c.report_front-told.new.lines names history c.report_front-told.ensures.kept
+    lines_as c.report_front-told.new.kept names history c.report_front-told.ensures.kept
 
 pub returns-clause-ok : goal.returns-clause-ok
 returns-clause-ok g c =

@@ -8,10 +8,10 @@ pub report_part_through-told-requires-clause-kept : goal.report_part_through-tol
 report_part_through-told-requires-clause-kept g c =
     let names = ap (λ (db : Db). db.names) c.value.ensures ∙ c.hold-held.ensures.names in
     let history = ap (λ (db : Db). db.history) c.value.ensures ∙ c.hold-held.ensures.history in
-    lines_as c.args.lines.now (sym names) (sym history) c.requires.kept
+    lines_as c.args.kept.now (sym names) (sym history) c.requires.kept
 
 pub returns-clause-kept : goal.returns-clause-kept
 returns-clause-kept g c =
     let names = ap (λ (db : Db). db.names) c.value.ensures ∙ c.hold-held.ensures.names in
     let history = ap (λ (db : Db). db.history) c.value.ensures ∙ c.hold-held.ensures.history in
-    lines_as c.report_part_through-told.new.lines names history c.report_part_through-told.ensures.kept
+    lines_as c.report_part_through-told.new.kept names history c.report_part_through-told.ensures.kept

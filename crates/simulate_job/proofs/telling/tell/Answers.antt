@@ -16,7 +16,7 @@ use Rattle.simulate_job.specs.Simulating.{IsVoyage}
 use Rattle.simulate_job.proofs.telling.tell.Goals as goal
 
 pub tell_opening-requires-clause-kept : goal.tell_opening-requires-clause-kept
-tell_opening-requires-clause-kept g c = no_lines (clients_in c.args.play.now) (history_in c.args.play.now) _ c.new-lines.ensures
+tell_opening-requires-clause-kept g c = no_lines (clients_in c.args.play.now) (history_in c.args.play.now) _ c.new-kept.ensures
 
 pub returns-in-Err : goal.returns-in-Err
 returns-in-Err g c = λ task of.
@@ -44,7 +44,7 @@ loop-more-init g c =
     let same = sym c.tell_opening.ensures.same in
     record {
       empty = c.new-buffer.ensures;
-      kept = subst (λ (play : Playing). KeepsLines (clients_in play) (history_in play) c.tell_opening.new.lines) same c.tell_opening.ensures.kept;
+      kept = subst (λ (play : Playing). KeepsLines (clients_in play) (history_in play) c.tell_opening.new.kept) same c.tell_opening.ensures.kept;
       simulating = subst (IsSimulating c.args.vehicle.now) same c.requires.simulating;
       gear = refl;
       same = subst (GoesOnWith play) same (record { script = refl; order = refl; names = refl; helm = refl });

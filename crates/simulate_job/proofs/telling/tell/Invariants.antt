@@ -10,7 +10,7 @@ use Rattle.simulate_job.proofs.telling.tell.Given as goal
 abbrev pub invariant-loop-more : goal.invariant-loop-more
 invariant-loop-more g l = record {
   empty : l.buffer ≡ [];
-  kept : KeepsLines (clients_in l.play) (history_in l.play) l.lines;
+  kept : KeepsLines (clients_in l.play) (history_in l.play) l.kept;
   simulating : IsSimulating l.vehicle l.play;
   gear : l.vehicle.gear ≡ l.fn.vehicle.gear;
   same : GoesOnWith l.fn.play l.play;

@@ -24,10 +24,10 @@ returns-in_default-clause-stopped g c = λ task before faults of later told.
     before _ faults _ told)
 
 pub tell_part-requires-clause-kept : goal.tell_part-requires-clause-kept
-tell_part-requires-clause-kept g c = lines_stay c.args.play.now c.round.new.play c.args.lines.now c.round.ensures.seated c.requires.kept
+tell_part-requires-clause-kept g c = lines_stay c.args.play.now c.round.new.play c.args.kept.now c.round.ensures.seated c.requires.kept
 
 pub returns-in_default-next-clause-kept : goal.returns-in_default-next-clause-kept
-returns-in_default-next-clause-kept g c = lines_stay c.args.play.now c.round.new.play c.args.lines.now c.round.ensures.seated c.requires.kept
+returns-in_default-next-clause-kept g c = lines_stay c.args.play.now c.round.new.play c.args.kept.now c.round.ensures.seated c.requires.kept
 
 pub tell_part-requires-clause-fetched : goal.tell_part-requires-clause-fetched
 tell_part-requires-clause-fetched g c =
