@@ -1,4 +1,4 @@
--- The table of the parameters of behaviours: under which names each is in a file, which values it may have, which
+-- The table of the parameters of behaviours: by which names a file sets each, which values it may have, which
 -- types have it, and what it is if it isn't given.
 use Rattle.std.specs.Prelude.{ℕ, pos, neg_ℤ, Bool, true, false, if◌then◌else◌, List, [], ◌∷◌, codes, bytes_eq, find, Option, Some, None}
 use Rattle.std.specs.List.{list_any}

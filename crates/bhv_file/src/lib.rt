@@ -5,7 +5,7 @@
 //! this layer which parameter a name means and what its value says.
 //!
 //! Read `decl`, `common`, `spec` and `file`; then `table`, which says what parameters there are, `setting` with `places`, and
-//! `put`; `out` is by itself. Of specs/ read `Table`, `Values` and `Params`, `Paths`, `Ranges` and `Validity`.
+//! `put`; `out` needs none of these. Of specs/ read `Table`, `Values` and `Params`, `Paths`, `Ranges` and `Validity`.
 #![tactic(auto)]
 
 mod axis;

@@ -1,4 +1,4 @@
-// The table of the parameters of behaviours: under which names each is in a file, which values it may have, and which
+// The table of the parameters of behaviours: by which names a file sets each, which values it may have, and which
 // types have it. `put` says in which field it is, and `types` what it is if it isn't given.
 ghost use Rattle.std.specs.Prelude.{◌≡◌, find};
 ghost use Rattle.bhv_file.specs.Table.{common_named, is_called, is_needed, parameter_of, value_range, states_common};

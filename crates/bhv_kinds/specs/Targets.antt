@@ -15,7 +15,7 @@ use Rattle.bhv_kinds.specs.Changes.{KindStep, KindChange, Updated, Stepped, para
 abbrev pub spot_at : List Spot → ℕ → Spot
 spot_at places number = unwrap_or (slice_get places number) (record { x = pos 0; y = pos 0 })
 
--- if the last step found the vehicle, unless the places were given anew since
+-- where the last step found the vehicle, unless the places were given anew since
 abbrev pub last_position : Spec → List KindChange → Option Spot
 last_position spec [] = None
 last_position spec (Updated axes text ∷ past) = if gives_places axes (params_at spec past) text then None else last_position spec past

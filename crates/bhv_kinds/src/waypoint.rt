@@ -75,7 +75,7 @@ pub fn is_captured(
     within(now, target, radii.capture) || (same && has_slipped(radii.slip, target, before, now))
 }
 
-/// The number in a list of the point that comes after so many others, in the list's order or from its end.
+/// The number in a list of `count` points of the one behind `captured` others, in the list's order or from its end.
 pub fn target_number(count: usize, reverse: bool, captured: usize) -> usize
     ensures { result ≡ target_number count reverse captured }
 {

@@ -19,14 +19,14 @@ runs_in (Run fresh) = true
 runs_in TimedOut = true
 runs_in Completed = false
 
--- it completes, if its step is done or not
+-- whether it completes, by whether its step is done
 abbrev pub completes_in : Phase → Bool → Bool
 completes_in Idle done = false
 completes_in (Run fresh) done = done
 completes_in TimedOut done = true
 completes_in Completed done = false
 
--- the state that it comes to, if it gave a function that counts and if its step is done
+-- its state after the turn, by whether it gave a function that counts and whether its step is done
 abbrev pub state_in : Phase → Bool → Bool → BhvState
 state_in Idle gave done = IdleState
 state_in (Run fresh) gave done = if done then CompletedState else if gave then Active else Running

@@ -63,7 +63,7 @@ fn steps_in(phase: Phase) -> bool
     matches!(phase, Phase::Run { .. })
 }
 
-/// Whether it completes, if its step is done or not.
+/// Whether it completes, by whether its step is done.
 fn completes_in(phase: Phase, done: bool) -> bool
     ensures { result ≡ completes_in phase done }
 {

@@ -50,7 +50,7 @@ begins_behavior (Some sides) = str_eq_ignore_ascii_case sides.name (codes "Behav
 abbrev pub opens_mode_or_behavior : List ℕ → Bool
 opens_mode_or_behavior text = begins_by (codes "set") text || (not (begins_by (codes "initialize") text) && begins_behavior (sides_of text))
 
--- what stands on the right in the line that opens a block, without the `{` that may end the line
+-- what is on the right in the line that opens a block, without the `{` that may end the line
 abbrev pub named_by : Sides → List ℕ
 named_by sides = trimmed (without_last 123 sides.value)
 

@@ -37,13 +37,13 @@ abbrev pub IsRanged : Unclosed → Type 0
 IsRanged (OfMode mode) = Unit {0}
 IsRanged (OfBehavior behavior) = InRanges false behavior.value.spec.shape
 
--- so they are where the reader is
+-- they are so in the block in which the reader is
 abbrev pub IsRangedAt : Position → Type 0
 IsRangedAt Loose = Unit {0}
 IsRangedAt (Headed block) = IsRanged block
 IsRangedAt (Braced block) = IsRanged block
 
--- where the reader stands with this file
+-- where the reader is with this file
 abbrev pub standing_at : BhvFile → Position → Standing BhvFile OpenBlock
 standing_at file Loose = Outside file
 standing_at file (Headed block) = Opened (open_block file block)

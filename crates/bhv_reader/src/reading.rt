@@ -277,7 +277,7 @@ fn behind_head(text: &[u8], block: Unclosed) -> Position
     }
 }
 
-// Behind a line that opens a block is its `{`.
+// After a line that opens a block comes its `{`.
 fn braced(block: Unclosed, text: &[u8]) -> Result<Position, Cause>
     ensures { result ≡ (if bytes_eq text.now (codes "{") then Ok (Position.Braced block) else Err Cause.B1) }
 {

@@ -56,7 +56,7 @@ pub record WroteFront {T : Type 0} (outcomes : Outcomes T) (turn : FileTurn T) (
   pub output : outcomes.MayWrite task status text
   pub took : TookFront sink.taken_before sink.taken_after text
 
--- How a job ends that is so with its files: it wrote all; or the sink failed behind a front; or it is refused by the first
+-- How a job ends that is here with its files: it wrote all; or the sink failed behind a front; or it is refused by the first
 -- refusal, and wrote nothing; or it wrote nothing when no memory was left, or a front of what is written as it comes.
 abbrev pub Ended : {T : Type 0} → Outcomes T → FileTurn T → Sinking → Status → Type 0
 Ended outcomes turn sink Done = WroteAll outcomes turn Done sink
@@ -99,7 +99,7 @@ pub record FailsFrom {T : Type 0} (run : Surroundings) (turn : List (List ℕ) �
   pub unsure : is_among run.sure name ≡ false
   pub silent : IsUntouched run.sink
 
--- how a job that is so by the bytes of its files, and has loaded the first ones, goes on and ends: it fails at loading a
+-- how a job whose files have come so far, by the bytes of those that it has loaded, goes on and ends: it fails at loading a
 -- file, or ends with those that it has
 abbrev pub EndsFrom : {T : Type 0} → Outcomes T → Surroundings → (List (List ℕ) → FileTurn T) → List (List ℕ) → Status → Type 0
 EndsFrom outcomes run turn front LoadFault = FailsFrom run turn front

@@ -3,7 +3,7 @@ use Rattle.std.specs.Prelude.{ℕ}
 use Rattle.command_line.specs.declared.status.Status.{Status}
 use Rattle.command_line.specs.declared.status.Status.TheVariants.{Done, CheckNo, Usage, LoadFault, WriteFault, Refused, NoMemory}
 
--- the number that a shell sees: 0 to 6, in the order in which the statuses are
+-- the number that a shell sees: 0 to 6, in the order of the statuses
 abbrev pub code_of : Status → ℕ
 code_of Done = 0
 code_of CheckNo = 1

@@ -11,7 +11,7 @@ use Rattle.script_reader.specs.declared.script.Order.TheVariants.{Stamp, Race}
 abbrev pub order_in : List Row → Order
 order_in found = if is_set (codes "race") found then Race else Stamp
 
--- if a file was found that need not be there its name, which a text can hold; and none if none was found
+-- the name of a file that need not be there, which a text can hold, if one was found; and none if none was
 abbrev pub other_file_in : Text → List Row → Option (Option (List ℕ))
 other_file_in id found = if is_none (first_of id found) then Some None else option_map (λ name. Some name) (file_in id found)
 

@@ -1,16 +1,16 @@
--- Where a job stands with its files, one after another.
+-- Where a job is with its files, one after another.
 use Rattle.std.specs.Prelude.{◌≡◌, ℕ, List, [], ◌∷◌, ◌++◌, Option, Some, IfSome, Result, Ok, Err}
 use Rattle.moos_text.specs.declared.cause.ReadFault.{ReadFault}
 use Rattle.command_line.specs.declared.status.FileKind.{FileKind}
 
--- Where a job stands with its files: the next one is wanted, of this kind and name; or all were good, and this task is to be
+-- Where a job is with its files: the next one is wanted, of this kind and name; or all were good, and this task is to be
 -- done; or the last one, of this kind, is refused.
 pub data FileTurn (T : Type 0) : Type 0 where
   Wanted : FileKind → List ℕ → FileTurn T
   Ready : T → FileTurn T
   Unfit : FileKind → ReadFault → FileTurn T
 
--- what comes behind a file of this kind, which was read or is refused
+-- what follows a file of this kind, which was read or is refused
 abbrev pub turn_behind : {T A : Type 0} → FileKind → (A → FileTurn T) → Result A ReadFault → FileTurn T
 turn_behind kind next (Ok value) = next value
 turn_behind kind next (Err fault) = Unfit kind fault
@@ -25,7 +25,7 @@ WasWanted told (Wanted kind name) bytes = HasBytes told name bytes
 WasWanted told (Ready task) bytes = ⊥
 WasWanted told (Unfit kind fault) bytes = ⊥
 
--- a job that is so by the bytes of its files has loaded the first ones, and loads the second ones behind them, each if
+-- a job whose place goes by the bytes of its files has loaded the first ones, and loads the second ones behind them, each if
 -- it is wanted
 abbrev pub AreLoaded : {T : Type 0} → Option (List ℕ → Option (List ℕ)) → (List (List ℕ) → FileTurn T) → List (List ℕ) → List (List ℕ) → Type 0
 AreLoaded told turn front [] = Unit {0}

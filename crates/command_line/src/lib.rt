@@ -3,7 +3,7 @@
 //!
 //! The contract for the layers above: `job_named` gives the job that the words stand for, by what the command-line crate says
 //! of simple commands. `load`, `unloaded`, `refused` and `written` are the steps of a job between its files and its status. The
-//! definition of how a job ends is over any job: where it stands with its files, and which texts it may write, are handed to it
+//! definition of how a job ends is over any job: where it is with its files, and which texts it may write, are handed to it
 //! (`EndsFrom` in specs/), so that each job can be in a crate of its own.
 //!
 //! Reading order: `words`, `commands`, `job`; `status` and `steps`.

@@ -69,7 +69,7 @@ pub enum Status {
     NoMemory,
 }
 
-/// The exit status of the program: 0 for `Done`, and then in the order in which the variants are.
+/// The exit status of the program: 0 for `Done`, and then in the order of the variants.
 pub fn code(status: &Status) -> u8
     ensures { result ≡ code_of status.now }
 {

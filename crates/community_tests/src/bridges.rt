@@ -232,7 +232,7 @@ fn carries<R: Wait + Abort>(rt: &R, alloc: Global, file: &str, calls: &str, post
 
 const ROWS: &[(&str, &str, &str)] = &[
     // Each under the prefix of the first rule that selects it, once, in the order of the posts. One post of the bridge for each
-    // call, also if nothing came.
+    // call, even if nothing came.
     (
         "share X * 0 A_\nshare * * 0 -",
         "0 a X\n0 carry\n1000 a NAV_Y\n1000 b X Z\n1000 carry\n2000 carry",

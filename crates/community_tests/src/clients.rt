@@ -109,7 +109,7 @@ fn each_call_once(rt: HostRuntime) {
     lock.give_back(&mut first, held);
 }
 
-// The client posts so many times, and says whether each call was Ok.
+// The client makes `calls` posts, and says whether each call was Ok.
 fn post_often<R: Wait>(
     rt: &R,
     alloc: Global,
@@ -128,7 +128,7 @@ fn post_often<R: Wait>(
     (seat, good)
 }
 
-// Whether the client's entries are so many, at the stamps from 0 on.
+// Whether the client has `calls` entries, at the stamps from 0 on.
 fn is_in_order(db: &Db, client: u32, calls: u64) -> bool {
     let mut next = 0;
     for k in 0..db.entries() {

@@ -154,7 +154,7 @@ const LATE_FOR_MANY: &str = "0 1 post C B A C
 2000 0 register * 0 *
 3000 0 fetch 2 3 4 5";
 
-// The second X of a batch is due if the interval is 0 alone.
+// The second X of a batch is due only if the interval is 0.
 const VARIABLE_TWICE_IN_A_BATCH: &str = "0 0 register X 500 *
 0 2 register X 0 *
 1000 1 post X Y X

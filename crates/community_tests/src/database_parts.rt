@@ -51,7 +51,7 @@ fn tells_letters(rt: &impl Abort, alloc: Global, db: &mut Db)
 {
     let mail = db.fetch(alloc, 1, 3000).expect(rt, "memory");
     db.letters_law(3);
-    assert!(rt; db.letters(1).len() == 0 && db.letters(3) == [1, 2].as_slice());
+    assert!(rt; db.letters(1).is_empty() && db.letters(3) == [1, 2].as_slice());
     assert!(rt; mail.len() == 2);
     is_second(rt, mail.get(0));
 }

@@ -7,7 +7,7 @@ use std::process::Abort;
 fn takes(rt: &impl Abort, alloc: Global, mailbox: &mut Mailbox, numbers: &[u64]) {
     assert!(rt; mailbox.waiting() == numbers);
     assert!(rt; mailbox.take_all(alloc).all() == numbers);
-    assert!(rt; mailbox.waiting().len() == 0);
+    assert!(rt; mailbox.waiting().is_empty());
 }
 
 // Numbers wait until they are taken, in the order of mailing, and stay mailed for good.

@@ -140,7 +140,7 @@ fn shared_by<R: Threads + Wait + Sync + Abort>(
     shared.expect(rt, "memory")
 }
 
-// The history ends with an entry of the client with this number at this stamp, has so many entries, and the client posts these
+// The history ends with an entry of the client with this number at this stamp, has `entries` of them, and the client posts these
 // variables in it, in order.
 fn has_carried(rt: &impl Abort, db: &Db, bridge: u32, stop: u64, entries: u64, vars: &[&str]) {
     let mut left = vars;
@@ -162,7 +162,7 @@ fn has_carried(rt: &impl Abort, db: &Db, bridge: u32, stop: u64, entries: u64, v
             left = rest;
         }
     }
-    assert!(rt; left.len() == 0 && last == stop && db.entries() == entries);
+    assert!(rt; left.is_empty() && last == stop && db.entries() == entries);
 }
 
 // The first script, the second one, the bridge file; the bridge's number in either; the last stamp, how many entries each history

@@ -60,7 +60,7 @@ fn empty_journal(alloc: Global) -> Journal
     }
 }
 
-// A lock over an empty journal, which so many passes take in turns, and its first pass.
+// A lock over an empty journal, which `passes` passes take in turns, and its first pass.
 fn journal_of(rt: &impl Abort, alloc: Global, passes: u32) -> (TurnLock<Journal>, Pass<Journal>)
     requires { 1 ≤ passes }
     ensures { result.1 ≡ first_pass result.0 passes }
@@ -71,7 +71,7 @@ fn journal_of(rt: &impl Abort, alloc: Global, passes: u32) -> (TurnLock<Journal>
     }
 }
 
-// In its turn the pass has this number, and sees so many marks.
+// In its turn the pass has this number, and sees this many marks.
 fn sees<R: Wait + Abort>(
     rt: &R,
     lock: &TurnLock<Journal>,
@@ -111,7 +111,7 @@ fn each_call_once(rt: HostRuntime) {
     are_marks(&rt, journal.marks.as_slice(), &[(1, 0), (0, 0), (1, 1)]);
 }
 
-// Adds so many marks in turn.
+// Adds `marks` marks in turn.
 fn add_all<R: Wait>(
     rt: &R,
     lock: &TurnLock<Journal>,
@@ -169,7 +169,7 @@ fn meet_both(
     lock.meet(first, other);
 }
 
-// The marks that the pass of this number made are so many, in their order.
+// The pass of this number made `count` marks, in their order.
 fn has_made(rt: &impl Abort, marks: &[Mark], by: u32, count: u64) {
     let mut next = 0u64;
     for mark in marks {

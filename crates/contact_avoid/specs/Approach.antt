@@ -42,7 +42,7 @@ abbrev pub relative_velocity : Track → ℤ → ℤ → Vector
 relative_velocity contact speed course =
     minus (velocity contact.speed (degree_of contact.heading)) (velocity speed (degree_of course))
 
--- The squared closest approach, if the contact is at r and moves by w: if it doesn't come nearer that of now, and else
+-- The squared closest approach of a contact that is at r and moves by w: that of now if it doesn't come nearer, and else
 -- the squared distance of the own position from the line along which it moves.
 abbrev pub closest : Vector → Vector → Fraction
 closest r w =
@@ -69,7 +69,7 @@ utility_between near far q =
 abbrev pub is_far : Vector → Bool
 is_far r = not (nat_le (nat_abs r.x) (10 ^ 7) && nat_le (nat_abs r.y) (10 ^ 7))
 
--- the utility if the contact is at r and moves by w: a far one is no danger
+-- the utility against a contact that is at r and moves by w: a far one is no danger
 abbrev pub utility_by : ℕ → ℕ → Vector → Vector → ℕ
 utility_by near far r w = if is_far r then 100000 else utility_between near far (closest r w)
 

@@ -37,7 +37,7 @@ abbrev pub track_from : Option ℤ → Option ℤ → Option ℤ → Option ℤ 
 track_from x y speed heading =
     option_and_then (λ east. option_and_then (λ north. option_and_then (λ fast. option_map (λ angle. record { x = east; y = north; speed = fast; heading = angle }) heading) speed) y) x
 
--- if the contact of these parameters is and how it moves
+-- where the contact of these parameters is and how it moves
 abbrev pub track_in : Avoidance → Option Track
 track_in avoidance = track_from avoidance.contact_x avoidance.contact_y avoidance.contact_speed avoidance.contact_heading
 

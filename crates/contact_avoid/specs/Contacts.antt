@@ -124,12 +124,12 @@ contact_posts false true report = pair_saying (codes "CONTACT_ALERT") report.nam
 contact_posts true true report = pair_saying (codes "CONTACT_INFO") (inside_text report) ∷ []
 contact_posts true false report = pair_saying (codes "CONTACT_RESOLVED") report.name ∷ pair_saying (codes "CONTACT_INFO") (outside_text report) ∷ []
 
--- what is posted of all contacts at the turn of this picture, if turns of those pictures were before
+-- what is posted of all contacts at the turn of this picture, after turns of those pictures
 abbrev pub batch_at : Ranges → List Picture → Picture → List Pair
 batch_at ranges before picture =
     flat_map (λ (report : Report). contact_posts (is_inside ranges report.name before) (is_inside ranges report.name (before ++ picture ∷ [])) report) picture.contacts
 
--- what each turn of these pictures posts, if turns of those were before
+-- what each turn of these pictures posts, after turns of those
 abbrev pub batches_from : Ranges → List Picture → List Picture → List (List Pair)
 batches_from ranges before [] = []
 batches_from ranges before (picture ∷ later) = batch_at ranges before picture ∷ batches_from ranges (before ++ picture ∷ []) later

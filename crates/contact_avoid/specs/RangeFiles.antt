@@ -14,7 +14,7 @@ use Rattle.contact_avoid.specs.declared.range_name.RangeName.{RangeName}
 use Rattle.contact_avoid.specs.declared.range_name.RangeName.TheVariants.{Alert, Clear}
 use Rattle.contact_avoid.specs.declared.ranges.Ranges.{Ranges}
 
--- what is if a file sets nothing: 50 and 60 metres
+-- the ranges if a file sets nothing: 50 and 60 metres
 abbrev pub usual_ranges : Ranges
 usual_ranges = record { alert = 50000; clear = 60000 }
 

@@ -6,7 +6,7 @@
 //! `avoid_out` of its parameters.
 //!
 //! Reading order: `range_name` and `ranges`, the contacts file; `report`; then `contact`, `contacts`, `posts`, `known_contacts` and
-//! `manager`. The closest approach is by itself: `vector`, `sizes`, `approach`, `worth` and `motion`; on it are
+//! `manager`. The closest approach needs none of these: `vector`, `sizes`, `approach`, `worth` and `motion`; on it rest
 //! `clearance` and `avoid`. Of specs/ read `RangeFiles`, `Reports`, `Contacts`, `Standing`, `Approach` and `Avoids`; `Kept` serves what is kept between turns, and `Bounds` says
 //! how great numbers are.
 #![tactic(auto)]

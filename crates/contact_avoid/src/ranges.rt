@@ -97,7 +97,7 @@ impl Ranges {
         }
     }
 
-    // The same ranges, if they may be so in a file with this last line.
+    // The same ranges, if a file with this last line may set them.
     fn ordered(self, last: u32) -> Result<Ranges, ReadFault>
         ensures read { IfOk result (λ ranges. ordered last self ≡ Ok ranges) }
         ensures refused { IfErr result (λ fault. ordered last self ≡ Err fault) }

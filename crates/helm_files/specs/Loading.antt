@@ -1,4 +1,4 @@
--- The files of a helm, one after another: where a job stands with them.
+-- The files of a helm, one after another: where a job is with them.
 use Rattle.std.specs.Prelude.{◌≡◌, ℕ, IsTrue, List, [], ◌∷◌, Ok, Option}
 use Rattle.bhv_file.specs.Validity.{IsValidFile, serves}
 use Rattle.bhv_reader.specs.Behaviors.{behaviors_of}

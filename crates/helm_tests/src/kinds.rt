@@ -16,7 +16,7 @@ use std::marker::Brand;
 use std::process::Abort;
 use std::sync::ledger::{Blank, Ledger};
 
-// A behaviour that keeps the station if it is first stepped.
+// A behaviour that keeps its station where it is first stepped.
 #[tactic(auto, using(bhv_kinds::proofs::KindExamples::station_valid))]
 pub(crate) fn station() -> Kind {
     Kind::make(Spec {

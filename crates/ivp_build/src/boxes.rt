@@ -27,7 +27,7 @@ fn last_run(domain: &Domain, size: u32, axis: usize) -> u32
     (size_on(domain, axis) - 1) / size
 }
 
-/// The runs of so many places on each axis, by number: from 0 to that of the last place.
+/// The runs of `size` places on each axis, by number: from 0 to that of the last place.
 pub(crate) fn all_runs(domain: &Domain, size: u32) -> BoxN
     requires { 0 < size }
     ensures runs { result ≡ all_runs domain.now size }

@@ -43,7 +43,7 @@ fn nine(a: [u32; 3], b: [u32; 3], c: [u32; 3]) -> [u32; 9]
     [a[0], a[1], a[2], b[0], b[1], b[2], c[0], c[1], c[2]]
 }
 
-/// The ends round a circle of so many places.
+/// The ends round a circle of `count` places.
 fn round(slopes: &Slopes, summit: u32, count: u32) -> [u32; 9]
     requires slopes { AreSlopes slopes.now }
     requires few { count ≤ 2 ^ 28 }
@@ -62,7 +62,7 @@ fn round(slopes: &Slopes, summit: u32, count: u32) -> [u32; 9]
     }
 }
 
-/// Where the cuts of a shape along an axis of so many places end: the places behind them, rising.
+/// Where the cuts of a shape along an axis of `count` places end: the places behind them, rising.
 /// One that is no greater than the one before it ends no cut.
 pub(crate) fn ends(profile: &Profile, count: u32) -> [u32; 9]
     requires few { count ≤ 2 ^ 28 }

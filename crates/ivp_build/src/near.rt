@@ -11,7 +11,7 @@ use ivp_domain::{Axis, Domain};
 /// A whole circle, in thousandths of a degree.
 const CIRCLE: u64 = 360_000;
 
-/// The last of so many places is one step before a whole circle.
+/// The last of `points` places is one step before a whole circle.
 fn ends_before_circle(high: u64, points: u64) -> bool
     requires high { high ≤ 10 ^ 12 }
     requires few { points ≤ 2 ^ 28 }

@@ -30,7 +30,7 @@ fn span_of(axis: &Axis) -> u64
     (axis.high - axis.low) as u64
 }
 
-/// How many places a width spans, if so many steps make up a span.
+/// How many places a width spans, if `last` steps make up `span`.
 fn spanned(width: u64, last: u64, span: u64) -> u128
     requires width { width ≤ 10 ^ 12 }
     requires last { last < 2 ^ 28 }

@@ -13,7 +13,7 @@ pub(crate) struct Profile {
 }
 
 impl Profile {
-    /// The utility at a place of an axis of so many.
+    /// The utility at a place of an axis of `count` places.
     pub(crate) fn utility(&self, place: u32, count: u32) -> i64
         requires few { count ≤ 2 ^ 28 }
         requires profile { IsProfileOf count self.now }

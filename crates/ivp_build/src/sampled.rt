@@ -39,7 +39,7 @@ fn slope<F: Fn(&Point) -> i64>(utility: &F, area: &BoxN, low: i64, axis: usize) 
     by_place(high, low, places)
 }
 
-/// The change from one value to another over so many places, by place, toward zero.
+/// The change from one value to another over `places` places, by place, toward zero.
 fn by_place(high: i64, low: i64, places: u32) -> i64
     requires high { IsTrue (is_value high) }
     requires low { IsTrue (is_value low) }

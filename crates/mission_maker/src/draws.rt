@@ -5,7 +5,7 @@ ghost use Rattle.mission_maker.specs.Draws.{draw};
 use rand_core::utils::NextWord;
 use rand_pcg::Pcg32;
 
-/// The draw of a number below `n` that comes behind so many others. It is looked up by a jump of the generator, so no line of
+/// The draw of a number below `n` behind `draws` others. It is looked up by a jump of the generator, so no line of
 /// a script rests on how another one was made.
 #[tactic(auto, unfolding(crate::specs::Draws::draw, crate::specs::Draws::generator_behind))]
 pub fn draw(number: u64, draws: u64, n: u32) -> u32

@@ -110,7 +110,7 @@ is_brace text = bytes_eq text (codes "{") || bytes_eq text (codes "}")
 abbrev pub line_in : AppBlock → List ℕ → Result AppBlock Cause
 line_in block text = if block.helm then and_then (λ settings. Ok (app_block settings true)) (with_setting block.settings (sides_of text)) else Ok block
 
--- how a mission is read, section after section: outside blocks a line is unread, but no brace may be there alone
+-- how a mission is read, section after section: outside blocks a line is unread, but it may not be a brace alone
 abbrev pub mission_form : Form Settings AppBlock
 mission_form =
     record {

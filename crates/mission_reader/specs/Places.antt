@@ -5,7 +5,7 @@ use Rattle.mission_reader.specs.declared.reading.Place.TheVariants.{Loose, Heade
 use Rattle.mission_reader.specs.declared.settings.Settings.{Settings}
 use Rattle.mission_reader.specs.Missions.{app_block, AppBlock}
 
--- where the reader stands with these settings
+-- where the reader is with these settings
 abbrev pub standing : Settings → Place → Standing Settings AppBlock
 standing settings Loose = Outside settings
 standing settings (Headed helm) = Opened (app_block settings helm)

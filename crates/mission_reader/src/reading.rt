@@ -157,7 +157,7 @@ fn behind_head(text: &[u8], helm: bool) -> Place
     }
 }
 
-// Behind a line that opens a block is its `{`.
+// After a line that opens a block comes its `{`.
 fn braced(text: &[u8], helm: bool) -> Result<Place, Cause>
     ensures { result ≡ (if bytes_eq text.now (codes "{") then Ok (Place.Braced helm) else Err Cause.M1) }
 {
@@ -168,7 +168,7 @@ fn braced(text: &[u8], helm: bool) -> Result<Place, Cause>
     }
 }
 
-// Outside blocks no brace is alone.
+// Outside blocks no line is a brace alone.
 fn loose_line(text: &[u8]) -> Result<(), Cause>
     ensures loose { IfOk result (λ _. is_brace text.now ≡ false) }
     ensures refused { IfErr result (λ cause. (is_brace text.now ≡ true) × (cause ≡ Cause.M1)) }

@@ -14,7 +14,7 @@ use Rattle.moos_mail.proofs.Appending.{one_of-mailed, ordered-more, waits-more}
 use Rattle.moos_mail.proofs.Lists.{found-below}
 use Rattle.moos_mail.proofs.Orderly.{IsOrderly, IsPast}
 use Rattle.moos_db.specs.Clients.{ClientState, IsClient, mailed_once, registration_of}
-use Rattle.moos_db.specs.Subscriptions.{AreHeard, AreKeptAs, AreKnown, HasLatest, SubscriptionNow, IsHeardBy, HasKnown, IsNumbering, IsPosted, VariableState, VariablesState, subscriptions_of, hears_due, mailed_if, of_client}
+use Rattle.moos_db.specs.Subscriptions.{AreHeard, AreKeptAs, AreKnown, HasLatest, SubscriptionState, IsHeardBy, HasKnown, IsNumbering, IsPosted, VariableState, VariablesState, subscriptions_of, hears_due, mailed_if, of_client}
 use Rattle.moos_db.specs.Tables.{Row, number_of, rows_of}
 use Rattle.moos_db.proofs.Adding.{other-name}
 use Rattle.moos_db.proofs.Changes.{all-at, all-set}
@@ -31,7 +31,7 @@ apart-name variables numbers at k var other numbering numbered is apart =
 
 -- A post comes through the registrations of each client of which this says so, and through those who hear its variable of which the
 -- other does.
-module _ (clients : ℕ) (post : Post) (heard : SubscriptionNow → Bool) (comes : ℕ → Live → Bool) (inboxes now : ℕ → Inbox) (alike : (client : ℕ) → AreAsOne client post.var heard (comes client))
+module _ (clients : ℕ) (post : Post) (heard : SubscriptionState → Bool) (comes : ℕ → Live → Bool) (inboxes now : ℕ → Inbox) (alike : (client : ℕ) → AreAsOne client post.var heard (comes client))
     (come : (client : ℕ) → (now client).lives ≡ map (passed (comes client) post) (inboxes client).lives) where
   -- the variable of the post is heard as the inboxes say, and so is each other
   own-heard : (variable : VariableState) (latest : Option ℕ) (room : ℕ) → variable.name ≡ post.var → IsHeardBy clients inboxes variable →
@@ -41,8 +41,8 @@ module _ (clients : ℕ) (post : Post) (heard : SubscriptionNow → Bool) (comes
         of_client-stamped client heard post.stamp variable.subscriptions ∙ ap (map (stamped heard post.stamp)) (are.each client below ∙ ap (λ var. subscriptions_of client var (inboxes client).lives) name)
         ∙ subscriptions-passed client heard (comes client) post (inboxes client).lives (alike client)
         ∙ (λ i. subscriptions_of client (sym name i) (sym (come client) i));
-    within = All-map (λ (subscription : SubscriptionNow). subscription.client < clients) (stamped heard post.stamp) variable.subscriptions
-        (All-weaker (λ (subscription : SubscriptionNow). subscription.client < clients) (λ subscription. (stamped heard post.stamp subscription).client < clients)
+    within = All-map (λ (subscription : SubscriptionState). subscription.client < clients) (stamped heard post.stamp) variable.subscriptions
+        (All-weaker (λ (subscription : SubscriptionState). subscription.client < clients) (λ subscription. (stamped heard post.stamp subscription).client < clients)
         (λ subscription below. subst (λ n. n < clients) (sym (stamped-client heard post.stamp subscription)) below) variable.subscriptions are.within);
   }
 
@@ -134,7 +134,7 @@ posted-kept names inboxes posts post before after clients others posted name ord
     now : ℕ → Inbox
     now client = with_post names (inboxes client) post
 
-    heard : SubscriptionNow → Bool
+    heard : SubscriptionState → Bool
     heard = hears_due post.stamp (name_of names post.source)
 
     heard_here : IsHeardBy (length clients) inboxes posted.variable

@@ -8,7 +8,7 @@ use Rattle.std.proofs.lemmas.Option.{same_Some, slice_get-map, slice_get_within}
 use Rattle.moos_mail.proofs.Lists.{found-below, take-next}
 use Rattle.moos_post.specs.Patterns.{matches}
 use Rattle.moos_db.specs.declared.registration.Registration.{Registration}
-use Rattle.moos_db.specs.Subscriptions.{AreNumbers, SubscriptionNow, VariableState, VariablesState}
+use Rattle.moos_db.specs.Subscriptions.{AreNumbers, SubscriptionState, VariableState, VariablesState}
 use Rattle.moos_db.specs.Registering.{AreEach, AreEachAt, AreRoomier, HasRoomThrough, HaveRoomFor, Heard, IsAddedTo, IsRoomier, heard_at_number, heard_where, heard_through, variable_names}
 use Rattle.moos_db.proofs.Changes.{AreNumbers-names, each-shown, names-at, set-cases}
 
@@ -103,11 +103,11 @@ at-append number xs ys =
     ap (map (λ (one : Heard). one.1)) (filter-append (λ (one : Heard). one.0 == number) xs ys)
     ∙ map-append (λ (one : Heard). one.1) (filter (λ (one : Heard). one.0 == number) xs) (filter (λ (one : Heard). one.0 == number) ys)
 
-pub at-own : (number : ℕ) (subscription : SubscriptionNow) (ys : List Heard) → heard_at_number number ((number, subscription) ∷ ys) ≡ subscription ∷ heard_at_number number ys
+pub at-own : (number : ℕ) (subscription : SubscriptionState) (ys : List Heard) → heard_at_number number ((number, subscription) ∷ ys) ≡ subscription ∷ heard_at_number number ys
 at-own number subscription ys =
     ap (λ b. map (λ (one : Heard). one.1) (cond b ((number, subscription) ∷ filter (λ (one : Heard). one.0 == number) ys) (filter (λ (one : Heard). one.0 == number) ys))) (eq-eqb number number refl)
 
-pub at-other : (number other : ℕ) (subscription : SubscriptionNow) → other ≢ number → heard_at_number other ((number, subscription) ∷ []) ≡ []
+pub at-other : (number other : ℕ) (subscription : SubscriptionState) → other ≢ number → heard_at_number other ((number, subscription) ∷ []) ≡ []
 at-other number other subscription apart =
     ap (λ b. map (λ (one : Heard). one.1) (cond b ((number, subscription) ∷ []) [])) (ne_eqb number other (λ same. apart (sym same)))
 
@@ -125,13 +125,13 @@ added-more first second number one other more was now =
 pub added-nobody : (number : ℕ) (variable : VariableState) → IsAddedTo [] number variable variable
 added-nobody number variable = record { same = ap (λ subscriptions. record variable { subscriptions = subscriptions }) (sym (append-nil variable.subscriptions)); room = omega arith }
 
-added-none : (number other : ℕ) (subscription : SubscriptionNow) (variable : VariableState) → other ≢ number → IsAddedTo ((number, subscription) ∷ []) other variable variable
+added-none : (number other : ℕ) (subscription : SubscriptionState) (variable : VariableState) → other ≢ number → IsAddedTo ((number, subscription) ∷ []) other variable variable
 added-none number other subscription variable apart = record {
   same = ap (λ subscriptions. record variable { subscriptions = subscriptions }) (sym (ap (λ all. variable.subscriptions ++ all) (at-other number other subscription apart) ∙ append-nil variable.subscriptions));
   room = omega arith;
 }
 
-pub added-set : (before after : List VariableState) (all : List Heard) (number : ℕ) (subscription : SubscriptionNow) (one other : VariableState) → AreEachAt (IsAddedTo all) before after → slice_get after number ≡ Some one →
+pub added-set : (before after : List VariableState) (all : List Heard) (number : ℕ) (subscription : SubscriptionState) (one other : VariableState) → AreEachAt (IsAddedTo all) before after → slice_get after number ≡ Some one →
     other ≡ record one { subscriptions = one.subscriptions ++ subscription ∷ []; room = other.room } → one.room ≤ other.room + 1 → AreEachAt (IsAddedTo (all ++ (number, subscription) ∷ [])) before (slice_set after number other)
 added-set before after all number subscription one other added there same room =
     each-then (IsAddedTo all) (IsAddedTo ((number, subscription) ∷ [])) (IsAddedTo (all ++ (number, subscription) ∷ [])) before after (slice_set after number other)
@@ -142,7 +142,7 @@ added-set before after all number subscription one other added there same room =
     }))
 
 -- there is room for the next
-pub room-next : (before after : List VariableState) (all : List Heard) (number : ℕ) (subscription : SubscriptionNow) (rest : List Heard) (one : VariableState) → HaveRoomFor (all ++ (number, subscription) ∷ rest) before →
+pub room-next : (before after : List VariableState) (all : List Heard) (number : ℕ) (subscription : SubscriptionState) (rest : List Heard) (one : VariableState) → HaveRoomFor (all ++ (number, subscription) ∷ rest) before →
     AreEachAt (IsAddedTo all) before after → slice_get after number ≡ Some one → 0 < one.room
 room-next before after all number subscription rest one room added there =
     let found : (x : VariableState) × (slice_get before number ≡ Some x) = found-below before number (omega (arith, added.each, slice_get_within after number one there)) in

@@ -21,7 +21,7 @@ use Rattle.moos_mail.proofs.Orderly.{IsOrderly, orderly-keeps, settled-inbox_of}
 use Rattle.moos_db.specs.declared.mail.Origin.{Origin}
 use Rattle.moos_db.specs.Clients.{ClientState}
 use Rattle.moos_db.specs.Database.{origin_of}
-use Rattle.moos_db.specs.Subscriptions.{HearBelow, AreKeptAs, AreNoted, AreReady, HasRoom, HaveLetterRoom, SubscriptionNow, IsHeardBy, IsPosted, VariableState, VariablesState, after_hearing, hears_due, name_at}
+use Rattle.moos_db.specs.Subscriptions.{HearBelow, AreKeptAs, AreNoted, AreReady, HasRoom, HaveLetterRoom, SubscriptionState, IsHeardBy, IsPosted, VariableState, VariablesState, after_hearing, hears_due, name_at}
 use Rattle.moos_db.specs.Places.{AreKept, inboxes_after, makes_posts}
 use Rattle.moos_db.proofs.AfterCalls.{AreKeptAs-alike, IsAlike, next-inbox}
 use Rattle.moos_db.proofs.AfterPosts.{none-ahead, posted-kept}
@@ -76,13 +76,13 @@ posting-new names history later done variables clients state next k d within =
     (omega (arith, ap length (posted-posts names history (take done later) k), length-append (posts_of history) (take done later), length-take-le done later (omega (arith, next))))
 
 -- there is one place less of room for the others
-room-less : (more : ℕ) (before after : List ClientState) (subscription : SubscriptionNow) → length after ≡ length before →
+room-less : (more : ℕ) (before after : List ClientState) (subscription : SubscriptionState) → length after ≡ length before →
     ((client : ℕ) (one other : ClientState) → slice_get before client ≡ Some one → slice_get after client ≡ Some other → one.spare ≤ other.spare + 1) → HasRoom before more subscription → HasRoom after (more - 1) subscription
 room-less more before after subscription each less room client there =
     let here = found-below before subscription.client (omega (arith, slice_get_within after subscription.client client there, each)) in
     omega (arith, room here.0 here.1, less subscription.client here.0 client here.1 there)
 
-rooms-heard : (more stamp : ℕ) (source : List ℕ) (clients : List ClientState) (subscriptions : List SubscriptionNow) → All (HasRoom clients more) subscriptions → All (HasRoom clients more) (map (after_hearing stamp source) subscriptions)
+rooms-heard : (more stamp : ℕ) (source : List ℕ) (clients : List ClientState) (subscriptions : List SubscriptionState) → All (HasRoom clients more) subscriptions → All (HasRoom clients more) (map (after_hearing stamp source) subscriptions)
 rooms-heard more stamp source clients subscriptions rooms =
     All-map (HasRoom clients more) (after_hearing stamp source) subscriptions
     (All-weaker (HasRoom clients more) (λ subscription. HasRoom clients more (after_hearing stamp source subscription))

@@ -17,7 +17,7 @@ use Rattle.moos_post.specs.Patterns.{matches}
 use Rattle.moos_db.specs.declared.mail.Origin.{Origin}
 use Rattle.moos_db.specs.Database.{origin_of}
 use Rattle.moos_db.specs.Clients.{ClientState, IsClient}
-use Rattle.moos_db.specs.Subscriptions.{AreHeard, AreKeptAs, AreKnown, AreNoted, HasLatest, SubscriptionNow, IsHeardBy, VariableState, VariablesState, subscriptions_of, is_new_at, mailed_if, name_at, of_client, with_inbox}
+use Rattle.moos_db.specs.Subscriptions.{AreHeard, AreKeptAs, AreKnown, AreNoted, HasLatest, SubscriptionState, IsHeardBy, VariableState, VariablesState, subscriptions_of, is_new_at, mailed_if, name_at, of_client, with_inbox}
 use Rattle.moos_db.specs.Registering.{IsCaught, StandsAt, catch_number, catch_post}
 use Rattle.moos_db.specs.Tables.{number_of}
 use Rattle.moos_db.proofs.AfterPosts.{all-heard, client-mailed, known-passed}
@@ -59,7 +59,7 @@ caught-by names posts inbox number post answer there new is =
         (λ k d within. ap (λ b. if b then with_came post (get_or inbox.lives k d) else get_or inbox.lives k d) (none-at (is_new_for names inbox.entries post) inbox.lives k d (sym none) within))))
 
 -- who is new is the client's
-new-own : (client made : ℕ) (source : List ℕ) (subscriptions : List SubscriptionNow) → list_any (is_new_at client made source) subscriptions ≡ list_any (is_new_at client made source) (of_client client subscriptions)
+new-own : (client made : ℕ) (source : List ℕ) (subscriptions : List SubscriptionState) → list_any (is_new_at client made source) subscriptions ≡ list_any (is_new_at client made source) (of_client client subscriptions)
 new-own client made source [] = refl
 new-own client made source (subscription ∷ subscriptions) = through (subscription.client == client) refl (new-own client made source subscriptions)
   where
@@ -119,7 +119,7 @@ kept-caught names posts client number made place post answer inboxes before afte
     now : ℕ → Inbox
     now = with_inbox client catch inboxes
 
-    heard : SubscriptionNow → Bool
+    heard : SubscriptionState → Bool
     heard = is_new_at client made source
 
     comes : ℕ → Live → Bool

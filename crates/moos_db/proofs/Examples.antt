@@ -15,7 +15,7 @@ use Rattle.moos_post.proofs.Texts.{bytes_eq_comm}
 use Rattle.moos_db.specs.Database.{after_entry, AreLetters, AreMails, Database, letter_at, letter_of, origin_of, pair_posted}
 use Rattle.moos_db.specs.declared.mail.Letter.{Letter}
 use Rattle.moos_db.specs.Clients.{ClientState, IsClient}
-use Rattle.moos_db.specs.Subscriptions.{AreKnown, HasLatest, SubscriptionNow, subscriptions_of, IsHeardBy, HasKnown, of_client, VariableState, VariablesState, with_inbox}
+use Rattle.moos_db.specs.Subscriptions.{AreKnown, HasLatest, SubscriptionState, subscriptions_of, IsHeardBy, HasKnown, of_client, VariableState, VariablesState, with_inbox}
 use Rattle.moos_db.specs.Places.{inboxes_after, IsDb, IsLog, LogState, place_at, post_in}
 use Rattle.moos_db.specs.Registering.{catch_number, catch_post, StandsAt}
 use Rattle.moos_db.specs.Tables.{Row, rows_of, number_of}
@@ -186,13 +186,13 @@ given (suc (suc (suc (suc zero)))) below = refl
 given (suc (suc (suc (suc (suc k))))) below = absurd (omega (arith, below))
 
 -- Client 0 hears A by its registration, and post 2 was the last that came through.
-abbrev subscription : ℕ → SubscriptionNow
+abbrev subscription : ℕ → SubscriptionState
 subscription stamp = record { client = 0; reg = all; made = 1; last = Some stamp }
 
-abbrev variable : List SubscriptionNow → VariableState
+abbrev variable : List SubscriptionState → VariableState
 variable subscriptions = record { name = codes "A"; latest = Some 2; subscriptions = subscriptions; room = 0 }
 
-abbrev variables : List SubscriptionNow → VariablesState
+abbrev variables : List SubscriptionState → VariablesState
 variables subscriptions = record { all = variable subscriptions ∷ []; numbers = row (codes "A") 0 ∷ []; noted = 0 ∷ 0 ∷ 0 ∷ [] }
 
 abbrev first : ClientState
@@ -207,7 +207,7 @@ are_clients = each_of (λ number one. IsClient (inboxes_after names fetched numb
     (each_of_none (λ number one. IsClient (inboxes_after names fetched (suc (suc number))) one)))
 
 is_heard : IsHeardBy 2 (inboxes_after names fetched) (variable (subscription 110 ∷ []))
-is_heard = record { each = by_each; within = All-cons (λ (one : SubscriptionNow). one.client < 2) (subscription 110) [] (omega arith) (All-nil (λ (one : SubscriptionNow). one.client < 2)) }
+is_heard = record { each = by_each; within = All-cons (λ (one : SubscriptionState). one.client < 2) (subscription 110) [] (omega arith) (All-nil (λ (one : SubscriptionState). one.client < 2)) }
   where
     by_each : (client : ℕ) → client < 2 → of_client client (subscription 110 ∷ []) ≡ subscriptions_of client (codes "A") (inboxes_after names fetched client).lives
     by_each zero below = refl
@@ -257,7 +257,7 @@ client_lost db = omega (arith, db.kept.each)
 subscription_lost : IsDb names journal (variables []) (first ∷ second ∷ []) → ⊥
 subscription_lost db = omega (arith, ap length ((All-head (IsHeardBy 2 (inboxes_after names fetched)) (variable []) [] db.kept.kept.heard.heard).each 0 (omega arith)))
 
-abbrev first_stamp_through : List SubscriptionNow → ℕ
+abbrev first_stamp_through : List SubscriptionState → ℕ
 first_stamp_through [] = 0
 first_stamp_through (one ∷ later) = unwrap_or one.last 0
 

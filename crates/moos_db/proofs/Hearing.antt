@@ -15,28 +15,28 @@ use Rattle.moos_post.specs.Patterns.{matches}
 use Rattle.moos_mail.proofs.Lists.{filter-all, filter-alike, filter-map, filter-none}
 use Rattle.moos_db.specs.declared.registration.Registration.{Registration}
 use Rattle.moos_db.specs.Clients.{is_with_patterns, registration_of}
-use Rattle.moos_db.specs.Subscriptions.{SubscriptionNow, fresh_subscription, fresh_subscriptions, subscription_of, subscriptions_of, hears_due, is_new_at, is_registration, of_client}
+use Rattle.moos_db.specs.Subscriptions.{SubscriptionState, fresh_subscription, fresh_subscriptions, subscription_of, subscriptions_of, hears_due, is_new_at, is_registration, of_client}
 
 -- a post comes through
 
 -- who hears a variable after a post of this stamp, and a registration after a post, which comes through where this test says so
-abbrev pub stamped : (SubscriptionNow → Bool) → ℕ → SubscriptionNow → SubscriptionNow
+abbrev pub stamped : (SubscriptionState → Bool) → ℕ → SubscriptionState → SubscriptionState
 stamped comes stamp subscription = if comes subscription then record subscription { last = Some stamp } else subscription
 
 abbrev pub passed : (Live → Bool) → Post → Live → Live
 passed comes post live = if comes live then with_came post live else live
 
-pub stamped-client : (comes : SubscriptionNow → Bool) (stamp : ℕ) (subscription : SubscriptionNow) → (stamped comes stamp subscription).client ≡ subscription.client
+pub stamped-client : (comes : SubscriptionState → Bool) (stamp : ℕ) (subscription : SubscriptionState) → (stamped comes stamp subscription).client ≡ subscription.client
 stamped-client comes stamp subscription = by (comes subscription)
   where
     by : (b : Bool) → (if b then record subscription { last = Some stamp } else subscription).client ≡ subscription.client
     by true = refl
     by false = refl
 
-pub of_client-stamped : (client : ℕ) (comes : SubscriptionNow → Bool) (stamp : ℕ) (subscriptions : List SubscriptionNow) → of_client client (map (stamped comes stamp) subscriptions) ≡ map (stamped comes stamp) (of_client client subscriptions)
+pub of_client-stamped : (client : ℕ) (comes : SubscriptionState → Bool) (stamp : ℕ) (subscriptions : List SubscriptionState) → of_client client (map (stamped comes stamp) subscriptions) ≡ map (stamped comes stamp) (of_client client subscriptions)
 of_client-stamped client comes stamp subscriptions =
     filter-map (λ subscription. subscription.client == client) (stamped comes stamp) subscriptions
-    ∙ ap (λ (test : SubscriptionNow → Bool). map (stamped comes stamp) (filter test subscriptions)) (λ i subscription. stamped-client comes stamp subscription i == client)
+    ∙ ap (λ (test : SubscriptionState → Bool). map (stamped comes stamp) (filter test subscriptions)) (λ i subscription. stamped-client comes stamp subscription i == client)
 
 -- what was asked for, and when, stays
 passed-registration : (comes : Live → Bool) (post : Post) (live : Live) → registration_of (passed comes post live) ≡ registration_of live
@@ -67,7 +67,7 @@ other-passed true client var post live apart =
 other-passed false client var post live apart = refl
 
 -- where a change of the registrations and one of who hears are the same for each that matches, they are the same for all
-alike-changed : (client : ℕ) (var : List ℕ) (change : SubscriptionNow → SubscriptionNow) (keep : Live → Live) (lives : List Live) →
+alike-changed : (client : ℕ) (var : List ℕ) (change : SubscriptionState → SubscriptionState) (keep : Live → Live) (lives : List Live) →
     ((live : Live) → (keep live).reg ≡ live.reg) → ((live : Live) → matches live.reg.var var ≡ true → change (subscription_of client var live) ≡ subscription_of client var (keep live)) →
     map change (subscriptions_of client var lives) ≡ subscriptions_of client var (map keep lives)
 alike-changed client var change keep [] same alike = refl
@@ -83,7 +83,7 @@ alike-changed client var change keep (live ∷ lives) same alike =
     through false is rest = rest
 
 -- one test says of who hears the variable what the other says of the registrations that match it, and the other says so of no other
-pub record AreAsOne (client : ℕ) (var : List ℕ) (heard : SubscriptionNow → Bool) (comes : Live → Bool) : Type 0 where
+pub record AreAsOne (client : ℕ) (var : List ℕ) (heard : SubscriptionState → Bool) (comes : Live → Bool) : Type 0 where
   pub matched : (live : Live) → matches live.reg.var var ≡ true → heard (subscription_of client var live) ≡ comes live
   pub unmatched : (live : Live) → matches live.reg.var var ≡ false → comes live ≡ false
 
@@ -114,7 +114,7 @@ new-alike names client made post number = record {
     none false b = refl
 
 -- a post of the variable comes through who hears it just as through the registrations
-pub subscriptions-passed : (client : ℕ) (heard : SubscriptionNow → Bool) (comes : Live → Bool) (post : Post) (lives : List Live) → AreAsOne client post.var heard comes →
+pub subscriptions-passed : (client : ℕ) (heard : SubscriptionState → Bool) (comes : Live → Bool) (post : Post) (lives : List Live) → AreAsOne client post.var heard comes →
     map (stamped heard post.stamp) (subscriptions_of client post.var lives) ≡ subscriptions_of client post.var (map (passed comes post) lives)
 subscriptions-passed client heard comes post lives alike =
     alike-changed client post.var (stamped heard post.stamp) (passed comes post) lives (λ live. ap (λ (one : Registration). one.reg) (passed-registration comes post live))
@@ -127,7 +127,7 @@ others-passed client comes post var lives apart =
     (λ live is. other-passed (comes live) client var post live apart))
     ∙ map_fixed (λ subscription. subscription) (subscriptions_of client var lives) (λ k d below. refl)
 
-pub any-subscriptions : (client : ℕ) (var : List ℕ) (heard : SubscriptionNow → Bool) (comes : Live → Bool) (lives : List Live) → AreAsOne client var heard comes → list_any heard (subscriptions_of client var lives) ≡ list_any comes lives
+pub any-subscriptions : (client : ℕ) (var : List ℕ) (heard : SubscriptionState → Bool) (comes : Live → Bool) (lives : List Live) → AreAsOne client var heard comes → list_any heard (subscriptions_of client var lives) ≡ list_any comes lives
 any-subscriptions client var heard comes [] alike = refl
 any-subscriptions client var heard comes (live ∷ lives) alike = through (matches live.reg.var var) refl (any-subscriptions client var heard comes lives alike)
   where
@@ -159,11 +159,11 @@ filter-both one other xs all =
     ∙ filter-all (λ x. true) (filter other xs) (λ x. refl)
 
 -- those of a client, of which some are left
-pub of_client-filter : (client : ℕ) (test : SubscriptionNow → Bool) (subscriptions : List SubscriptionNow) → of_client client (filter test subscriptions) ≡ filter test (of_client client subscriptions)
+pub of_client-filter : (client : ℕ) (test : SubscriptionState → Bool) (subscriptions : List SubscriptionState) → of_client client (filter test subscriptions) ≡ filter test (of_client client subscriptions)
 of_client-filter client test subscriptions = filter-commute (λ subscription. subscription.client == client) test subscriptions
 
 -- none of another client's is withdrawn
-pub others-stay : (client other : ℕ) (var source : List ℕ) (subscriptions : List SubscriptionNow) → other == client ≡ false → filter (λ subscription. not (is_registration client var source subscription)) (of_client other subscriptions) ≡ of_client other subscriptions
+pub others-stay : (client other : ℕ) (var source : List ℕ) (subscriptions : List SubscriptionState) → other == client ≡ false → filter (λ subscription. not (is_registration client var source subscription)) (of_client other subscriptions) ≡ of_client other subscriptions
 others-stay client other var source subscriptions apart =
     filter-both (λ subscription. not (is_registration client var source subscription)) (λ subscription. subscription.client == other) subscriptions
     (λ subscription own. ap (λ b. not ((b && bytes_eq subscription.reg.var var) && bytes_eq subscription.reg.source source)) (ap (λ n. n == client) (eqb-true subscription.client other own) ∙ apart))
@@ -211,20 +211,20 @@ subscriptions-fresh client var (live ∷ lives) none = through (matches live.reg
     through false none rest = rest
 
 -- those of the client among these and its new ones
-pub own-more : (client : ℕ) (subscriptions : List SubscriptionNow) (lives : List Registration) → of_client client (subscriptions ++ map (fresh_subscription client) lives) ≡ of_client client subscriptions ++ map (fresh_subscription client) lives
+pub own-more : (client : ℕ) (subscriptions : List SubscriptionState) (lives : List Registration) → of_client client (subscriptions ++ map (fresh_subscription client) lives) ≡ of_client client subscriptions ++ map (fresh_subscription client) lives
 own-more client subscriptions lives =
-    filter-append (λ (subscription : SubscriptionNow). subscription.client == client) subscriptions (map (fresh_subscription client) lives)
+    filter-append (λ (subscription : SubscriptionState). subscription.client == client) subscriptions (map (fresh_subscription client) lives)
     ∙ ap (λ more. of_client client subscriptions ++ more)
-    (filter-map (λ (subscription : SubscriptionNow). subscription.client == client) (fresh_subscription client) lives ∙ ap (map (fresh_subscription client)) (filter-all (λ live. client == client) lives (λ live. eq-eqb client client refl)))
+    (filter-map (λ (subscription : SubscriptionState). subscription.client == client) (fresh_subscription client) lives ∙ ap (map (fresh_subscription client)) (filter-all (λ live. client == client) lives (λ live. eq-eqb client client refl)))
 
 -- those of another client stay
-pub others-more : (client other : ℕ) (subscriptions : List SubscriptionNow) (lives : List Registration) → client == other ≡ false → of_client other (subscriptions ++ map (fresh_subscription client) lives) ≡ of_client other subscriptions
+pub others-more : (client other : ℕ) (subscriptions : List SubscriptionState) (lives : List Registration) → client == other ≡ false → of_client other (subscriptions ++ map (fresh_subscription client) lives) ≡ of_client other subscriptions
 others-more client other subscriptions lives apart =
-    filter-append (λ (subscription : SubscriptionNow). subscription.client == other) subscriptions (map (fresh_subscription client) lives)
+    filter-append (λ (subscription : SubscriptionState). subscription.client == other) subscriptions (map (fresh_subscription client) lives)
     ∙ ap (λ more. of_client other subscriptions ++ more)
-    (filter-map (λ (subscription : SubscriptionNow). subscription.client == other) (fresh_subscription client) lives ∙ ap (map (fresh_subscription client)) (filter-none (λ live. client == other) lives (λ k d below. apart)))
+    (filter-map (λ (subscription : SubscriptionState). subscription.client == other) (fresh_subscription client) lives ∙ ap (map (fresh_subscription client)) (filter-none (λ live. client == other) lives (λ k d below. apart)))
     ∙ append-nil (of_client other subscriptions)
 
 -- each of those just made is the client's
-pub fresh-within : (client below : ℕ) (lives : List Registration) → client < below → All (λ (subscription : SubscriptionNow). subscription.client < below) (map (fresh_subscription client) lives)
-fresh-within client below lives lower = All-map (λ (subscription : SubscriptionNow). subscription.client < below) (fresh_subscription client) lives (λ k d within. lower)
+pub fresh-within : (client below : ℕ) (lives : List Registration) → client < below → All (λ (subscription : SubscriptionState). subscription.client < below) (map (fresh_subscription client) lives)
+fresh-within client below lives lower = All-map (λ (subscription : SubscriptionState). subscription.client < below) (fresh_subscription client) lives (λ k d within. lower)

@@ -10,20 +10,20 @@ use Rattle.std.proofs.lemmas.Option.{slice_get-get_or, slice_get_within}
 use Rattle.moos_mail.specs.Mailboxes.{is_one_of, with_number}
 use Rattle.moos_mail.proofs.Appending.{any_with}
 use Rattle.moos_db.specs.Clients.{ClientState, mailed_once}
-use Rattle.moos_db.specs.Subscriptions.{AreMailed, HasRoom, SubscriptionNow, hears_due, mailed_if, of_client}
+use Rattle.moos_db.specs.Subscriptions.{AreMailed, HasRoom, SubscriptionState, hears_due, mailed_if, of_client}
 use Rattle.moos_db.proofs.Changes.{set-cases}
 
 -- so far, and a client to which it was not mailed yet is as it was
-pub record IsMailing (number stamp : ℕ) (source : List ℕ) (subscriptions : List SubscriptionNow) (before after : List ClientState) : Type 0 where
+pub record IsMailing (number stamp : ℕ) (source : List ℕ) (subscriptions : List SubscriptionState) (before after : List ClientState) : Type 0 where
   pub mailed : AreMailed number stamp source subscriptions before after
   pub others : (client : ℕ) (one other : ClientState) → slice_get before client ≡ Some one → slice_get after client ≡ Some other → is_one_of number other.mailed ≡ false → other ≡ one
 
 -- one subscription more
-any-more : (test : SubscriptionNow → Bool) (client : ℕ) (subscriptions : List SubscriptionNow) (subscription : SubscriptionNow) →
+any-more : (test : SubscriptionState → Bool) (client : ℕ) (subscriptions : List SubscriptionState) (subscription : SubscriptionState) →
     list_any test (of_client client (subscriptions ++ subscription ∷ [])) ≡ (list_any test (of_client client subscriptions) || (subscription.client == client && test subscription))
 any-more test client subscriptions subscription =
-    ap (list_any test) (filter-append (λ (one : SubscriptionNow). one.client == client) subscriptions (subscription ∷ []))
-    ∙ list_any-append test (of_client client subscriptions) (filter (λ (one : SubscriptionNow). one.client == client) (subscription ∷ []))
+    ap (list_any test) (filter-append (λ (one : SubscriptionState). one.client == client) subscriptions (subscription ∷ []))
+    ∙ list_any-append test (of_client client subscriptions) (filter (λ (one : SubscriptionState). one.client == client) (subscription ∷ []))
     ∙ ap (λ more. list_any test (of_client client subscriptions) || more) (alone (subscription.client == client) (test subscription) refl)
   where
     alone : (own passes : Bool) → test subscription ≡ passes → list_any test (cond own (subscription ∷ []) []) ≡ own && passes
@@ -54,7 +54,7 @@ once-more false number first one new was is =
     by false = refl
 
 -- there is room for the post with a client to which it wasn't mailed yet
-pub mailing-room : (number stamp : ℕ) (source : List ℕ) (heard : List SubscriptionNow) (before after : List ClientState) (subscription : SubscriptionNow) (one : ClientState) → IsMailing number stamp source heard before after →
+pub mailing-room : (number stamp : ℕ) (source : List ℕ) (heard : List SubscriptionState) (before after : List ClientState) (subscription : SubscriptionState) (one : ClientState) → IsMailing number stamp source heard before after →
     HasRoom before 1 subscription → slice_get after subscription.client ≡ Some one → is_one_of number one.mailed ≡ false → 1 ≤ one.spare
 mailing-room number stamp source heard before after subscription one state room there fresh =
     let within : subscription.client < length before = omega (arith, slice_get_within after subscription.client one there, state.mailed.each) in
@@ -64,7 +64,7 @@ mailing-room number stamp source heard before after subscription one state room 
     omega (arith, room (get_or before subscription.client one) was)
 
 -- one subscription more, at which it isn't due
-pub mailing-passed : (number stamp : ℕ) (source : List ℕ) (heard : List SubscriptionNow) (before after : List ClientState) (subscription : SubscriptionNow) → IsMailing number stamp source heard before after →
+pub mailing-passed : (number stamp : ℕ) (source : List ℕ) (heard : List SubscriptionState) (before after : List ClientState) (subscription : SubscriptionState) → IsMailing number stamp source heard before after →
     hears_due stamp source subscription ≡ false → IsMailing number stamp source (heard ++ subscription ∷ []) before after
 mailing-passed number stamp source heard before after subscription state due = record {
   mailed = record {
@@ -84,7 +84,7 @@ mailing-passed number stamp source heard before after subscription state due = r
     and-false false false = refl
 
 -- one subscription more, at which it is due: its client is mailed it, unless it was
-pub mailing-due : (number stamp : ℕ) (source : List ℕ) (heard : List SubscriptionNow) (before after : List ClientState) (subscription : SubscriptionNow) (one new : ClientState) → IsMailing number stamp source heard before after →
+pub mailing-due : (number stamp : ℕ) (source : List ℕ) (heard : List SubscriptionState) (before after : List ClientState) (subscription : SubscriptionState) (one new : ClientState) → IsMailing number stamp source heard before after →
     All (λ (client : ClientState). is_one_of number client.mailed ≡ false) before → hears_due stamp source subscription ≡ true → slice_get after subscription.client ≡ Some one → new ≡ record (mailed_once number one) { spare = new.spare } →
     one.spare ≤ new.spare + 1 → (is_one_of number one.mailed ≡ true → new ≡ one) → IsMailing number stamp source (heard ++ subscription ∷ []) before (set after subscription.client new)
 mailing-due number stamp source heard before after subscription one new state fresh due there once room again = record {

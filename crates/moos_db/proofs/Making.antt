@@ -13,7 +13,7 @@ use Rattle.moos_post.specs.Delivery.{Inbox, Live}
 use Rattle.moos_post.specs.Patterns.{matches}
 use Rattle.moos_db.specs.declared.registration.Registration.{Registration}
 use Rattle.moos_db.specs.Clients.{ClientState, IsClient, registration_of}
-use Rattle.moos_db.specs.Subscriptions.{AreHeard, AreKeptAs, AreKnown, SubscriptionNow, IsHeardBy, HasKnown, VariableState, VariablesState, fresh_subscription, fresh_subscriptions, subscriptions_of, of_client, with_lives}
+use Rattle.moos_db.specs.Subscriptions.{AreHeard, AreKeptAs, AreKnown, SubscriptionState, IsHeardBy, HasKnown, VariableState, VariablesState, fresh_subscription, fresh_subscriptions, subscriptions_of, of_client, with_lives}
 use Rattle.moos_db.specs.Registering.{AreEach, AreEachAt, AreStill, HasRoomThrough, HaveRoomFor, Heard, IsAddedTo, IsPrepared, KeepsRoom, IsStill, PreparedState, heard_at_number, heard_through, heard_where, variable_names, with_prepared}
 use Rattle.moos_db.proofs.AfterRegistering.{at-append, at-other, at-own, each-refl, each-set, each-then}
 use Rattle.moos_db.proofs.Changes.{AreClients-set, at-each, changed-twice, each-shown, heard-changed, IsHeardSo}
@@ -66,8 +66,8 @@ through-few client live from number [] = omega arith
 through-few client live from number (name ∷ names) = elim (cases_Bool (number == from)) [
   | inl same ↦
       subst (λ n. length (heard_at_number n (heard_through client live from (name ∷ names))) ≤ 1) (sym (eqb-true number from same))
-      (subst (λ (subscriptions : List SubscriptionNow). length subscriptions ≤ 1) (sym (through-own client live from name names)) (by (matches live.reg.var name)))
-  | inr apart ↦ subst (λ (subscriptions : List SubscriptionNow). length subscriptions ≤ 1) (sym (through-other client live from number name names (eqb-false number from apart))) (through-few client live (suc from) number names)
+      (subst (λ (subscriptions : List SubscriptionState). length subscriptions ≤ 1) (sym (through-own client live from name names)) (by (matches live.reg.var name)))
+  | inr apart ↦ subst (λ (subscriptions : List SubscriptionState). length subscriptions ≤ 1) (sym (through-other client live from number name names (eqb-false number from apart))) (through-few client live (suc from) number names)
 ]
   where
     by : (b : Bool) → length (map (fresh_subscription client) (cond b (live ∷ []) [])) ≤ 1
@@ -99,7 +99,7 @@ room-through client live before after still room number variable there =
     let name : variable.name ≡ had.0.name = ap (λ (v : VariableState). v.name) is.same in
     let more : matches live.reg.var variable.name ≡ true → 1 ≤ variable.room
     = λ matched. let h : 1 ≤ had.0.room = room number had.0 had.1 (ap (matches live.reg.var) (sym name) ∙ matched) in omega (arith, h, is.room) in
-    subst (λ (subscriptions : List SubscriptionNow). length subscriptions ≤ variable.room) (sym (through-named client live after number variable there)) (by (matches live.reg.var variable.name) more)
+    subst (λ (subscriptions : List SubscriptionState). length subscriptions ≤ variable.room) (sym (through-named client live after number variable there)) (by (matches live.reg.var variable.name) more)
   where
     by : (b : Bool) → (b ≡ true → 1 ≤ variable.room) → length (map (fresh_subscription client) (cond b (live ∷ []) [])) ≤ variable.room
     by true more = more refl
@@ -130,7 +130,7 @@ module _ (client : ℕ) (live : Registration) (inboxes : ℕ → Inbox) where
           each = at-each client made inboxes (λ n inbox. n < clients → of_client n (variable.subscriptions ++ fresh_subscriptions client variable.name (live ∷ [])) ≡ subscriptions_of n variable.name inbox.lives)
               (λ low. own-more client variable.subscriptions own ∙ ap (λ front. front ++ fresh_subscriptions client variable.name (live ∷ [])) (heard.each client low) ∙ sym (subscriptions-more client variable.name (inboxes client).lives live))
               (λ n apart low. others-more client n variable.subscriptions own (ne_eqb client n (λ same. apart (sym same))) ∙ heard.each n low);
-          within = All-append (λ (subscription : SubscriptionNow). subscription.client < clients) variable.subscriptions (fresh_subscriptions client variable.name (live ∷ [])) heard.within (fresh-within client clients own below);
+          within = All-append (λ (subscription : SubscriptionState). subscription.client < clients) variable.subscriptions (fresh_subscriptions client variable.name (live ∷ [])) heard.within (fresh-within client clients own below);
         });
       }
 

@@ -9,7 +9,7 @@ use Rattle.moos_mail.proofs.Lists.{found-below}
 use Rattle.moos_post.specs.declared.value.Post.{Post}
 use Rattle.moos_post.specs.Delivery.{Inbox}
 use Rattle.moos_db.specs.Clients.{ClientState}
-use Rattle.moos_db.specs.Subscriptions.{AreAlike, AreHeard, AreReady, HasRoom, SubscriptionNow, VariableState, VariablesState}
+use Rattle.moos_db.specs.Subscriptions.{AreAlike, AreHeard, AreReady, HasRoom, SubscriptionState, VariableState, VariablesState}
 use Rattle.moos_db.proofs.Changes.{set-cases}
 
 -- there is so much room with each that hears one of these posts
@@ -31,17 +31,17 @@ alike-set before after i one new alike was is = record {
 }
 
 -- there is still room with each client after some was made with one
-pub room-set : (clients : List ClientState) (i more : ℕ) (new : ClientState) (subscription : SubscriptionNow) → more ≤ new.spare → HasRoom clients more subscription → HasRoom (set clients i new) more subscription
+pub room-set : (clients : List ClientState) (i more : ℕ) (new : ClientState) (subscription : SubscriptionState) → more ≤ new.spare → HasRoom clients more subscription → HasRoom (set clients i new) more subscription
 room-set clients i more new subscription made room client there = elim (set-cases clients i subscription.client new client there) [
   | inl own ↦ subst (λ (c : ClientState). more ≤ c.spare) (sym own.1) made
   | inr apart ↦ room client apart.1
 ]
 
-pub rooms-set : (clients : List ClientState) (i more : ℕ) (new : ClientState) (subscriptions : List SubscriptionNow) → more ≤ new.spare → All (HasRoom clients more) subscriptions → All (HasRoom (set clients i new) more) subscriptions
+pub rooms-set : (clients : List ClientState) (i more : ℕ) (new : ClientState) (subscriptions : List SubscriptionState) → more ≤ new.spare → All (HasRoom clients more) subscriptions → All (HasRoom (set clients i new) more) subscriptions
 rooms-set clients i more new subscriptions made = All-weaker (HasRoom clients more) (HasRoom (set clients i new) more) (λ subscription. room-set clients i more new subscription made) subscriptions
 
 -- there is with that client
-pub room-own : (clients : List ClientState) (i more : ℕ) (new : ClientState) (subscription : SubscriptionNow) → more ≤ new.spare → i ≡ subscription.client → HasRoom (set clients i new) more subscription
+pub room-own : (clients : List ClientState) (i more : ℕ) (new : ClientState) (subscription : SubscriptionState) → more ≤ new.spare → i ≡ subscription.client → HasRoom (set clients i new) more subscription
 room-own clients i more new subscription made same client there = elim (set-cases clients i subscription.client new client there) [
   | inl own ↦ subst (λ (c : ClientState). more ≤ c.spare) (sym own.1) made
   | inr apart ↦ absurd (apart.0 (sym same))

@@ -9,18 +9,18 @@ use Rattle.moos_post.specs.Delivery.{Inbox, Live, without_patterns}
 use Rattle.moos_post.specs.Patterns.{matches}
 use Rattle.moos_mail.proofs.Lists.{filter-all, filter-alike, filter-map, list_any-map, none-at}
 use Rattle.moos_db.specs.Clients.{ClientState, IsClient, has_registration, is_with_patterns, registration_of, without_registration}
-use Rattle.moos_db.specs.Subscriptions.{AreHeard, AreKeptAs, AreKnown, SubscriptionNow, IsHeardBy, HasKnown, VariableState, VariablesState, subscriptions_of, is_registration, of_client, with_lives}
+use Rattle.moos_db.specs.Subscriptions.{AreHeard, AreKeptAs, AreKnown, SubscriptionState, IsHeardBy, HasKnown, VariableState, VariablesState, subscriptions_of, is_registration, of_client, with_lives}
 use Rattle.moos_db.specs.Registering.{AreStill, KeepsRoom, IsStill}
 use Rattle.moos_db.specs.Withdrawing.{AreWithdrawn, IsWithdrawn, without_subscription}
 use Rattle.moos_db.proofs.AfterRegistering.{each-set}
 use Rattle.moos_db.proofs.Changes.{all-same, AreClients-set, at-each, heard-changed}
 use Rattle.moos_db.proofs.Hearing.{subscriptions-unmatched, subscriptions-withdrawn, of_client-filter, others-stay}
 
-if-name : (b : Bool) (subscriptions : List SubscriptionNow) (variable : VariableState) → (if b then record variable { subscriptions = subscriptions } else variable).name ≡ variable.name
+if-name : (b : Bool) (subscriptions : List SubscriptionState) (variable : VariableState) → (if b then record variable { subscriptions = subscriptions } else variable).name ≡ variable.name
 if-name true subscriptions variable = refl
 if-name false subscriptions variable = refl
 
-if-still : (b : Bool) (subscriptions : List SubscriptionNow) (room : ℕ) (variable : VariableState) →
+if-still : (b : Bool) (subscriptions : List SubscriptionState) (room : ℕ) (variable : VariableState) →
     record (if b then record variable { subscriptions = subscriptions } else variable) { room = room } ≡ record variable { subscriptions = (if b then record variable { subscriptions = subscriptions } else variable).subscriptions; room = room }
 if-still true subscriptions room variable = refl
 if-still false subscriptions room variable = refl
@@ -50,7 +50,7 @@ module _ (client : ℕ) (var source : List ℕ) (inboxes : ℕ → Inbox) where
   heard-withdrawn : (clients : ℕ) (one other : VariableState) → IsWithdrawn client var source one other → IsHeardBy clients inboxes one → IsHeardBy clients now other
   heard-withdrawn clients one other is heard = subst (IsHeardBy clients now) (sym is.same) (through (matches var one.name) refl)
     where
-      stays : SubscriptionNow → Bool
+      stays : SubscriptionState → Bool
       stays subscription = not (is_registration client var source subscription)
 
       through : (b : Bool) → matches var one.name ≡ b → IsHeardBy clients now (record (if b then record one { subscriptions = filter stays one.subscriptions } else one) { room = other.room })
@@ -59,7 +59,7 @@ module _ (client : ℕ) (var source : List ℕ) (inboxes : ℕ → Inbox) where
             ∙ at-each client left inboxes (λ n inbox. n < clients → filter stays (of_client n one.subscriptions) ≡ subscriptions_of n one.name inbox.lives)
             (λ low. ap (filter stays) (heard.each client low) ∙ subscriptions-withdrawn client var source one.name (inboxes client).lives)
             (λ n apart low. others-stay client n var source one.subscriptions (ne_eqb n client apart) ∙ heard.each n low) number below;
-        within = All-filter stays (λ (subscription : SubscriptionNow). subscription.client < clients) one.subscriptions heard.within;
+        within = All-filter stays (λ (subscription : SubscriptionState). subscription.client < clients) one.subscriptions heard.within;
       }
       through false none = record {
         each = at-each client left inboxes (λ n inbox. n < clients → of_client n one.subscriptions ≡ subscriptions_of n one.name inbox.lives)

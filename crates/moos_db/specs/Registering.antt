@@ -7,11 +7,11 @@ use Rattle.moos_post.specs.Delivery.{Inbox, is_new_for, Live, was_mailed, with_c
 use Rattle.moos_post.specs.Patterns.{matches}
 use Rattle.moos_db.specs.declared.registration.Registration.{Registration}
 use Rattle.moos_db.specs.Clients.{ClientState}
-use Rattle.moos_db.specs.Subscriptions.{SubscriptionNow, IsNumbering, VariableState, VariablesState, caught_at, fresh_subscription, is_new_at}
+use Rattle.moos_db.specs.Subscriptions.{SubscriptionState, IsNumbering, VariableState, VariablesState, caught_at, fresh_subscription, is_new_at}
 
 -- who is to hear a variable, with the variable's number
 abbrev pub Heard : Type 0
-Heard = ℕ × SubscriptionNow
+Heard = ℕ × SubscriptionState
 
 -- a registration that is to be made, and who are to hear a variable through it
 pub record PreparedState : Type 0 where
@@ -38,7 +38,7 @@ prepared_of client made names reg =
     record { live = record { reg = reg; made = made }; subscriptions = heard_through client (record { reg = reg; made = made }) 0 names }
 
 -- those of these that are to hear the variable with this number
-abbrev pub heard_at_number : ℕ → List Heard → List SubscriptionNow
+abbrev pub heard_at_number : ℕ → List Heard → List SubscriptionState
 heard_at_number number all = map (λ one. one.1) (filter (λ one. one.0 == number) all)
 
 -- the live registrations after this one more, which withdraws one with the same patterns
@@ -57,12 +57,12 @@ latest_heard variables all = flat_map (λ one. option_to_list (latest_at variabl
 abbrev pub latest_prepared : List VariableState → List PreparedState → List ℕ
 latest_prepared variables all = flat_map (λ one. latest_heard variables one.subscriptions) all
 
--- each of these is so to the one at its place before, if the number of the place counts
+-- each of these is related to the one at its place before, which may depend on the number of the place
 pub record AreEachAt {X : Type 0} (R : ℕ → X → X → Type 0) (before after : List X) : Type 0 where
   pub each : length after ≡ length before
   pub same : (number : ℕ) (one other : X) → slice_get before number ≡ Some one → slice_get after number ≡ Some other → R number one other
 
--- the same, if it doesn't
+-- the same, whatever the number of the place
 abbrev pub AreEach : {X : Type 0} → (X → X → Type 0) → List X → List X → Type 0
 AreEach R before after = AreEachAt (λ number. R) before after
 

@@ -12,7 +12,7 @@ use Rattle.moos_db.specs.Tables.{Row, number_of, rows_of, with_row}
 
 -- a live registration of a client that hears a variable, the entry that made it, and the stamp of the last post of the variable that
 -- came through it
-pub record SubscriptionNow : Type 0 where
+pub record SubscriptionState : Type 0 where
   pub client : ℕ
   pub reg : Reg
   pub made : ℕ
@@ -22,47 +22,47 @@ pub record SubscriptionNow : Type 0 where
 pub record VariableState : Type 0 where
   pub name : List ℕ
   pub latest : Option ℕ
-  pub subscriptions : List SubscriptionNow
+  pub subscriptions : List SubscriptionState
   pub room : ℕ
 
 -- the client hears the variable through this registration
-abbrev pub subscription_of : ℕ → List ℕ → Live → SubscriptionNow
+abbrev pub subscription_of : ℕ → List ℕ → Live → SubscriptionState
 subscription_of client var live = record { client = client; reg = live.reg; made = live.made; last = last_stamp var live.came }
 
 -- through which of these registrations the client hears the variable, in their order
-abbrev pub subscriptions_of : ℕ → List ℕ → List Live → List SubscriptionNow
+abbrev pub subscriptions_of : ℕ → List ℕ → List Live → List SubscriptionState
 subscriptions_of client var lives = map (subscription_of client var) (filter (λ live. matches live.reg.var var) lives)
 
 -- those of these that are the client's, in their order
-abbrev pub of_client : ℕ → List SubscriptionNow → List SubscriptionNow
+abbrev pub of_client : ℕ → List SubscriptionState → List SubscriptionState
 of_client client subscriptions = filter (λ subscription. subscription.client == client) subscriptions
 
 -- a post of this stamp from the source is due
-abbrev pub hears_due : ℕ → List ℕ → SubscriptionNow → Bool
+abbrev pub hears_due : ℕ → List ℕ → SubscriptionState → Bool
 hears_due stamp source subscription = matches subscription.reg.source source && is_past subscription.last stamp subscription.reg.interval
 
 -- after such a post, which comes through if it is due
-abbrev pub after_hearing : ℕ → List ℕ → SubscriptionNow → SubscriptionNow
+abbrev pub after_hearing : ℕ → List ℕ → SubscriptionState → SubscriptionState
 after_hearing stamp source subscription = if hears_due stamp source subscription then record subscription { last = Some stamp } else subscription
 
 -- it is of the client and was made at this entry, and selects a post from the source
-abbrev pub is_new_at : ℕ → ℕ → List ℕ → SubscriptionNow → Bool
+abbrev pub is_new_at : ℕ → ℕ → List ℕ → SubscriptionState → Bool
 is_new_at client made source subscription = subscription.client == client && subscription.made == made && matches subscription.reg.source source
 
 -- after a post of this stamp that catches up, which comes through if that is so
-abbrev pub caught_at : ℕ → ℕ → ℕ → List ℕ → SubscriptionNow → SubscriptionNow
+abbrev pub caught_at : ℕ → ℕ → ℕ → List ℕ → SubscriptionState → SubscriptionState
 caught_at client made stamp source subscription = if is_new_at client made source subscription then record subscription { last = Some stamp } else subscription
 
 -- it is the client's registration with these patterns
-abbrev pub is_registration : ℕ → List ℕ → List ℕ → SubscriptionNow → Bool
+abbrev pub is_registration : ℕ → List ℕ → List ℕ → SubscriptionState → Bool
 is_registration client var source subscription = subscription.client == client && bytes_eq subscription.reg.var var && bytes_eq subscription.reg.source source
 
 -- a registration that was just made, through which nothing came
-abbrev pub fresh_subscription : ℕ → Registration → SubscriptionNow
+abbrev pub fresh_subscription : ℕ → Registration → SubscriptionState
 fresh_subscription client live = record { client = client; reg = live.reg; made = live.made; last = None }
 
 -- through which of these registrations, through which nothing of the variable came, the client hears it
-abbrev pub fresh_subscriptions : ℕ → List ℕ → List Registration → List SubscriptionNow
+abbrev pub fresh_subscriptions : ℕ → List ℕ → List Registration → List SubscriptionState
 fresh_subscriptions client var lives = map (fresh_subscription client) (filter (λ live. matches live.reg.var var) lives)
 
 -- the live registrations of the client with this number; none if there is no such client
@@ -122,7 +122,7 @@ pub record AreHeard (clients : ℕ) (inboxes : ℕ → Inbox) (posts : List Post
 
 -- the variables with this one more, which the clients hear by their registrations, through which nothing of it came
 pub record IsAdded (clients : List ClientState) (var : List ℕ) (before after : VariablesState) : Type 0 where
-  pub subscriptions : List SubscriptionNow
+  pub subscriptions : List SubscriptionState
   pub room : ℕ
   pub each : (client : ℕ) → client < length clients → of_client client subscriptions ≡ fresh_subscriptions client var (lives_at clients client)
   pub within : All (λ subscription. subscription.client < length clients) subscriptions
@@ -140,7 +140,7 @@ pub record AreAlike (before after : List ClientState) : Type 0 where
   pub same : (number : ℕ) (one other : ClientState) → slice_get before number ≡ Some one → slice_get after number ≡ Some other → other ≡ record one { spare = other.spare }
 
 -- so many more can be mailed to the client without memory
-abbrev pub HasRoom : List ClientState → ℕ → SubscriptionNow → Type 0
+abbrev pub HasRoom : List ClientState → ℕ → SubscriptionState → Type 0
 HasRoom clients more subscription = (client : ClientState) → slice_get clients subscription.client ≡ Some client → more ≤ client.spare
 
 -- so they can to each who hears one of the posts from this number on
@@ -153,7 +153,7 @@ abbrev pub mailed_if : Bool → ℕ → ClientState → ClientState
 mailed_if mails number client = if mails then mailed_once number client else client
 
 -- the clients after the post with this number, of this stamp and from the source, which is mailed to each at one of whose subscriptions it is due
-pub record AreMailed (number stamp : ℕ) (source : List ℕ) (subscriptions : List SubscriptionNow) (before after : List ClientState) : Type 0 where
+pub record AreMailed (number stamp : ℕ) (source : List ℕ) (subscriptions : List SubscriptionState) (before after : List ClientState) : Type 0 where
   pub each : length after ≡ length before
   pub mail : (client : ℕ) (one other : ClientState) → slice_get before client ≡ Some one → slice_get after client ≡ Some other →
       other ≡ record (mailed_if (list_any (hears_due stamp source) (of_client client subscriptions)) number one) { spare = other.spare }

@@ -102,7 +102,7 @@ impl Client {
         log.append_mail(alloc, entry, &mut self.mailbox)
     }
 
-    // Makes room for so many registrations more.
+    // Makes room for `more` registrations.
     pub fn reserve(&mut self, more: usize) -> Result<(), NoMemory>
         ensures room { OnOk result (more ≤ self.new.room) }
         ensures same { self.new ≡ record self.old { room = self.new.room } }
@@ -111,7 +111,7 @@ impl Client {
         Ok(())
     }
 
-    // Makes room for so many numbers more in its mailbox.
+    // Makes room for `more` numbers in its mailbox.
     pub fn make_room(&mut self, more: usize) -> Result<(), NoMemory>
         ensures room { OnOk result (more ≤ self.new.spare) }
         ensures less { OnErr result (self.old.spare ≤ self.new.spare) }

@@ -67,7 +67,7 @@ fn push_places(places: &mut Vec<PostPlace>, entry: usize, posts: usize)
     }
 }
 
-// Takes the memory for one entry, what it gives, and the places of so many posts.
+// Takes the memory for one entry, what it gives, and the places of `posts` posts.
 fn make_room(
     entries: &mut Vec<Entry>,
     letters: &mut Vec<Numbers>,
@@ -84,6 +84,25 @@ fn make_room(
     entries.reserve(1)?;
     letters.reserve(1)?;
     places.reserve(posts)
+}
+
+// Adds an entry and the places of its posts, and leaves room for what it gives. All memory is taken before anything changes.
+fn push_entry(
+    entries: &mut Vec<Entry>,
+    letters: &mut Vec<Numbers>,
+    places: &mut Vec<PostPlace>,
+    entry: Entry,
+) -> Result<(), NoMemory>
+    ensures letters { letters.new.items ≡ letters.old.items }
+    ensures room { OnOk result (vec_len letters.new < vec_capacity letters.new) }
+    ensures entries { entries.new.items ≡ (if is_ok result then entries.old.items ++ entry ∷ [] else entries.old.items) }
+    ensures places { places.new.items ≡ (if is_ok result then places.old.items ++ map (place_at (vec_len entries.old)) (range_with_len 0 (length (posts_of_call 0 0 entry.call))) else places.old.items) }
+{
+    let posts = posts_in(&entry.call);
+    make_room(entries, letters, places, posts)?;
+    push_places(places, entries.len(), posts);
+    entries.push_reserved(entry);
+    Ok(())
 }
 
 impl Log {
@@ -176,15 +195,12 @@ impl Log {
         ensures waiting { mailbox.new.waiting ≡ (if is_ok result then [] else mailbox.old.waiting) }
         ensures mailed { mailbox.new.mailed ≡ mailbox.old.mailed }
     {
-        let (number, posts) = (self.entries.len(), posts_in(&entry.call));
-        make_room(
+        push_entry(
             &mut self.entries,
             &mut self.letters,
             &mut self.places,
-            posts,
+            entry,
         )?;
-        push_places(&mut self.places, number, posts);
-        self.entries.push_reserved(entry);
         self.letters.push_reserved(mailbox.take_all(alloc));
         Ok(())
     }
@@ -197,8 +213,13 @@ impl Log {
         }) }
         ensures same { OnErr result (self.new ≡ self.old) }
     {
-        let mut empty = Mailbox::make(alloc);
-        self.append_mail(alloc, entry, &mut empty)?;
+        push_entry(
+            &mut self.entries,
+            &mut self.letters,
+            &mut self.places,
+            entry,
+        )?;
+        self.letters.push_reserved(Numbers::new(alloc));
         Ok(())
     }
 }

@@ -36,7 +36,7 @@ impl Model for Prepared {
     ghost view = { λ one. record { live = one.live.value; subscriptions = one.subscriptions.items } };
 }
 
-// Takes all memory for this registration of the client, which this entry is to make, and leaves room for so many with each variable.
+// Takes all memory for this registration of the client, which this entry is to make, and leaves `room` with each variable.
 fn prepare(
     alloc: Global,
     variables: &mut Variables,
@@ -125,7 +125,7 @@ fn latest_of(
     Ok(numbers)
 }
 
-// Takes the client's memory for so many registrations and letters more.
+// Takes the client's memory for `regs` registrations and `letters` letters more.
 fn make_room(kept: &mut Client, regs: usize, letters: usize) -> Result<(), NoMemory>
     ensures same { kept.new ≡ record kept.old { spare = kept.new.spare; room = kept.new.room } }
     ensures regs { OnOk result (regs ≤ kept.new.room) }

@@ -18,9 +18,9 @@ pub(crate) struct Subscription {
 }
 
 impl Model for Subscription {
-    ghost use Rattle.moos_db.specs.Subscriptions.{SubscriptionNow};
+    ghost use Rattle.moos_db.specs.Subscriptions.{SubscriptionState};
 
-    ghost Value = { SubscriptionNow };
+    ghost Value = { SubscriptionState };
 
     ghost view = { λ subscription. record {
       client = subscription.client;

@@ -66,7 +66,7 @@ impl Model for Variables {
 }
 
 impl Variable {
-    // Makes room for so many more who hear it.
+    // Makes room for `more` subscriptions to it.
     fn reserve(&mut self, more: usize) -> Result<(), NoMemory>
         ensures roomier { IsRoomier self.old self.new }
         ensures room { OnOk result (more ≤ self.new.room) }
@@ -236,7 +236,7 @@ impl Variables {
         self.noted.truncate(from);
     }
 
-    // Makes room for so many letters more with each client that hears one of the posts from this number on.
+    // Makes room for `more` letters with each client that hears one of the posts from this number on.
     pub fn make_room(
         &self,
         clients: &mut Vec<Client>,

@@ -43,7 +43,7 @@ pub record HasIterated (names : List (List ℕ)) (before after : SeatState) (old
   pub fetched : IsFetched before after names stamp mail
   pub ticked : IsTicked old new stamp mail iteration
 
--- no memory was left for a call, or for what comes behind it
+-- no memory was left for a call, or for what follows it
 abbrev pub MayHaveCalled : SeatState → SeatState → ℕ → Call → Type 0
 MayHaveCalled before after stamp call = IsUncalled before after ⊎ IsCalled before after stamp call
 

@@ -13,7 +13,7 @@ use std::sync::Wait;
 
 impl<'a> Play<'a> {
     /// Makes one call of a further client, at whatever stamp. The mail is empty unless the client fetches. If no memory is
-    /// left there is no entry, and the run is as it stood.
+    /// left there is no entry, and the run is as it was.
     pub fn enter<R: Wait>(
         &mut self,
         rt: &R,

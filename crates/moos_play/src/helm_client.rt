@@ -30,7 +30,7 @@ pub(crate) struct HelmClient {
     pub(crate) iterations: Iterations,
 }
 
-/// The helm makes its ticks up to so many, until it finds no memory.
+/// The helm makes its ticks until it has made `ticks`, or finds no memory.
 pub(crate) fn steer<R: Threads + Wait + Sync, G: Gate>(
     rt: &R,
     alloc: Global,
@@ -157,8 +157,8 @@ fn post_copy<R: Wait>(
     Ok(())
 }
 
-/// The helm makes its ticks up to so many while no other client makes a call. Then the first seat has its
-/// seat again, also if memory is missing.
+/// The helm makes its ticks until it has made `ticks`, while no other client makes a call. Then the first seat has its
+/// seat again, even if memory is missing.
 pub(crate) fn lead<R: Threads + Wait + Sync, G: Gate>(
     rt: &R,
     alloc: Global,

@@ -15,7 +15,7 @@ use std::alloc::Global;
 use std::sync::Wait;
 use std::thread::{Threads, join_mut};
 
-/// Plays these lines, and has the helm make its ticks up to so many beside them. Also if memory is missing the first
+/// Plays these lines, and has the helm make its ticks beside them, up to `ticks`. Even if memory is missing, the first
 /// has all seats again, and each client has played a front of its lines.
 pub(crate) fn race<R: Threads + Wait + Sync, G: Gate>(
     rt: &R,

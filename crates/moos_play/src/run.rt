@@ -41,7 +41,7 @@ pub struct Ran {
 /// The clients have the numbers in which their names are, and make their calls on threads of their own. The helm has the
 /// number behind them and the name `pHelmIvP`. It opens before any thread starts: it registers for what it wants, and posts
 /// the pairs to begin with, if there are any, both at stamp 0. It ticks at each multiple of its period from 0 up to the
-/// script's last stamp: it fetches and posts, also if it has nothing to post.
+/// script's last stamp: it fetches and posts, even if it has nothing to post.
 ///
 /// In order Stamp there is a step for each stamp at which there are lines, and a tick follows the clients of its stamp. In
 /// order Race each client plays its whole script and the helm makes all its ticks, beside each other. The gate is called

@@ -31,7 +31,7 @@ pub(crate) struct Stage<'a> {
 
 impl<'a> Stage<'a> {
     /// Plays the next step: in order Stamp the lines of the next stamp or the helm's next tick, and in order Race
-    /// everything. It answers false if nothing was left. Also if memory is missing the first seat has all others.
+    /// everything. It answers false if nothing was left. Even if memory is missing, the first seat has all others.
     pub(crate) fn go_on<R: Threads + Wait + Sync, G: Gate>(
         &mut self,
         rt: &R,

@@ -7,9 +7,13 @@ use Rattle.moos_text.specs.Refusals.{and_then, at_line}
 use Rattle.moos_text.specs.Sections.{stated, statements_from}
 use Rattle.moos_text.specs.Standing.{read_lines}
 use Rattle.moos_share.specs.declared.rule.Rule.{Rule}
-use Rattle.moos_share.specs.BridgeFiles.{after_bridge_line, after_said, rules_of, with_rule, with_rules}
+use Rattle.moos_share.specs.BridgeFiles.{after_said, rules_of, with_rule, with_rules}
 
--- lines one after another, by what stands on them
+-- one line more, by its number and all that is on it
+abbrev pub after_bridge_line : ℕ → List Rule → List ℕ → Result (List Rule) ReadFault
+after_bridge_line line rules raw = after_said line rules (trimmed (content_of raw))
+
+-- lines one after another, by what is on them
 lines_said : (before : ℕ) (rules : List Rule) (raws : List (List ℕ)) → read_lines after_bridge_line before rules raws ≡ with_rules rules (statements_from before raws)
 lines_said before rules [] = refl
 lines_said before rules (raw ∷ raws) = by (trimmed (content_of raw)) (λ next. lines_said (suc before) next raws)

@@ -4,7 +4,7 @@ use Rattle.moos_post.specs.Words.{is_name, is_pattern}
 use Rattle.moos_text.specs.declared.cause.Cause.{Cause}
 use Rattle.moos_text.specs.declared.cause.Cause.TheVariants.{G1, G2, G3, G5, G6}
 use Rattle.moos_text.specs.declared.cause.ReadFault.{ReadFault}
-use Rattle.moos_text.specs.Lines.{content_of, is_unclosed, trimmed, words_of}
+use Rattle.moos_text.specs.Lines.{is_unclosed, words_of}
 use Rattle.moos_text.specs.Refusals.{and_then, at_line}
 use Rattle.moos_text.specs.Sections.{Statement, statements_of}
 use Rattle.script_reader.specs.Script.{time_of, word_at}
@@ -68,7 +68,3 @@ rules_of bytes = with_rules [] (statements_of bytes)
 abbrev pub after_said : ℕ → List Rule → List ℕ → Result (List Rule) ReadFault
 after_said line rules [] = Ok rules
 after_said line rules (byte ∷ bytes) = at_line line (with_rule rules (record { line = line; text = byte ∷ bytes }))
-
--- the same by all that stands on the line
-abbrev pub after_bridge_line : ℕ → List Rule → List ℕ → Result (List Rule) ReadFault
-after_bridge_line line rules raw = after_said line rules (trimmed (content_of raw))

@@ -11,7 +11,7 @@ use moos_post::{Batch, Copied, List, Name, Names, NoMemory, Pair, Post};
 use moos_reg::matches;
 use std::alloc::Global;
 
-/// The renaming of these letters, which were fetched if the clients have these names. Room is made once, for all of them.
+/// The renaming of these letters, which were posted by clients with these names. Room is made once, for all of them.
 pub(crate) fn renamed(
     alloc: Global,
     rules: &Rules,

@@ -89,7 +89,7 @@ pub record IsBeside (vehicle : Vehicle) (helm : HelmSetup) (play : Playing) : Ty
   pub some : 1 ≤ helm.period
   pub few : helm.period ≤ 10 ^ 6
 
--- A play in order Stamp to which the clients of a vehicle with this gear may come, with this period and from this number on: its helm has made
+-- A play in order Stamp which the clients of a vehicle with this gear may join, with this period and from this number on: its helm has made
 -- its opening, and nobody else an entry.
 pub record MayLaunch (gear : Gear) (step first : ℕ) (play : Playing) : Type 0 where
   pub helm : HelmSetup

@@ -1,4 +1,4 @@
-// How a vehicle comes into a play: its clients make their openings.
+// How a vehicle joins a play: its clients make their openings.
 ghost use Rattle.std.specs.Prelude.{◌≡◌, ◌++◌, ◌∷◌, [], IfOk, IfSome, OnOk};
 ghost use Rattle.moos_client.specs.Calls.{entry_of};
 ghost use Rattle.moos_lawful.specs.Answering.{openings};

@@ -55,7 +55,7 @@ impl Vehicle {
         Ok(())
     }
 
-    // uSimMarine's turn at a stamp: it fetches, moves the vehicle, and posts if it is then.
+    // uSimMarine's turn at a stamp: it fetches, moves the vehicle, and posts where it is then.
     pub(crate) fn sail<R: Wait>(
         &mut self,
         rt: &R,

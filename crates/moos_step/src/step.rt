@@ -16,7 +16,7 @@ use std::sync::Wait;
 use std::thread::{Threads, for_each_mut, join_mut};
 
 /// Plays these lines in one step. A client without lines leaves its seat with the first, and one that alone has lines
-/// plays without a thread. Also if memory is missing the first has all seats again, and each client has played a front
+/// plays without a thread. Even if memory is missing, the first has all seats again, and each client has played a front
 /// of its lines.
 pub fn play_step<R: Threads + Wait + Sync, G: Gate>(
     rt: &R,

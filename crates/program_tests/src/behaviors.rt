@@ -25,7 +25,7 @@ fn has_parts(text: &str, parts: &[&str]) -> bool {
             None => return false,
         }
     }
-    left.len() == 0
+    left.is_empty()
 }
 
 // Played by 1, 2 and 16 workers, these files come to one report, and it has these parts.

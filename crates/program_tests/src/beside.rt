@@ -42,7 +42,7 @@ fn said_by(name: &str) -> &'static str {
     }
 }
 
-// When a client makes its next line, if it has made so many: each registers at a stamp of its own.
+// When a client makes its next line, after `made` lines: each registers at a stamp of its own.
 fn stamp_of(name: &str, made: usize) -> &'static str {
     match made {
         0 if name == "a" => "0",
@@ -51,7 +51,7 @@ fn stamp_of(name: &str, made: usize) -> &'static str {
     }
 }
 
-// Adds the entry with number `k`: the next line of this client, if these clients have posted so far. A client gets each
+// Adds the entry with number `k`: the next line of this client, after the posts of these clients. A client gets each
 // post from its registration on, and the latest one before it.
 fn add_entry(
     rt: &impl Abort,

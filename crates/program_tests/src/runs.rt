@@ -82,7 +82,7 @@ pub(crate) fn folder_beside(rt: &impl Abort, alloc: Global, files: [&str; 3]) ->
     let mut folder = MemFolder::make(alloc);
     for (name, text) in ["s.txt", "m.moos", "alpha.bhv"].into_iter().zip(files) {
         assert!(rt; text.len() < 10_000);
-        if text.len() > 0 {
+        if !text.is_empty() {
             let added = folder.add(alloc, name.as_bytes(), text.as_bytes());
             added.expect(rt, "memory");
         }

@@ -58,7 +58,7 @@ const FLAGS: &[(&[u8], u32, Cause)] = &[
     (b"runflag = X", 35, Cause::B6),
 ];
 
-// A timer with so many lines is good, and with one more it is refused.
+// A timer with `times` such lines is good, and with one more it is refused.
 fn has_most(rt: &impl Abort, alloc: Global, times: u32, line: &[u8], more: &[(&[u8], u32, Cause)]) {
     let mut text = counted(rt, alloc, TIMER, times, line, b"\n");
     are_refused(rt, alloc, Kind::Behaviors, &text, more);
@@ -73,7 +73,7 @@ fn most_conditions_and_flags(rt: HostRuntime) {
     has_most(&rt, rt.alloc(), 32, b"endflag = X = ", FLAGS);
 }
 
-// A path of so many points.
+// A path of `places` points.
 fn path(rt: &impl Abort, alloc: Global, places: u32) -> Vec<u8>
     requires { 0 < places }
 {

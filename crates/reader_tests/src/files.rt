@@ -156,7 +156,7 @@ pub(crate) fn append_number(
     append(rt, text, &[before, number.bytes(), behind]);
 }
 
-/// A beginning, then so many times what is before a count, the count from 0 up, and what follows it.
+/// A beginning, then `times` times what is before a count, the count from 0 up, and what follows it.
 pub(crate) fn counted(
     rt: &impl Abort,
     alloc: Global,

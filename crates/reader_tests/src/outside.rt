@@ -6,7 +6,7 @@ use std::fs;
 use std::fs::{File, OpenFile};
 use std::process::Abort;
 
-// What a folder loads of each name behind a mark, and what then is there.
+// What a folder loads of each name behind a mark, and what is then there.
 fn loads<F: Folder>(
     rt: &impl Abort,
     alloc: Global,
@@ -81,7 +81,7 @@ const REAL: &[(&[u8], Result<(), LoadFault>, &[u8])] = &[
     (b"\xff", Err(LoadFault::Failed), b">"),
 ];
 
-// Sizes of a file, what is answered if it is loaded, and how many bytes are.
+// Sizes of a file, what a load of it answers, and how many bytes are then there.
 const SIZES: [(u64, Result<(), LoadFault>, usize); 2] = [
     (16_777_216, Ok(()), 16_777_216),
     (16_777_217, Err(LoadFault::Failed), 0),

@@ -127,7 +127,7 @@ const BAD: &[(&[u8], u32, Cause)] = &[
     (b"max_thrust = 100.001", 1, Cause::V2),
     (b"speed_factor = -0.001", 1, Cause::V2),
     (b"speed_factor = 1000.001", 1, Cause::V2),
-    // The first line that is wrong is told, also if a later line sets the same number well.
+    // The first line that is wrong is told, even if a later line sets the same number well.
     (b"max_speed = 0\nmax_speed = \"", 1, Cause::V2),
     (b"dive = 1\nmax_speed = 0\nmax_speed = 2", 2, Cause::V2),
 ];

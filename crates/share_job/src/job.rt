@@ -59,7 +59,7 @@ fn share_second<R: Threads + Wait + Sync, F: Folder, K: Sink, G: Gate>(
     gate: &G,
 ) -> Status
     requires first { IsWithoutBridge first.now }
-    // Whichever job the first script was loaded for, by where it stands with its files.
+    // Whichever job the first script was loaded for, by where it is with its files.
     ensures ends { (turn : List (List ℕ) → FileTurn ShareTask) (front : List (List ℕ)) → ((files : List (List ℕ)) → turn (front ++ files) ≡ second_turn order first.now name.now bridge.now files)
         → EndsFrom share_outcomes (surroundings (F.told folder.old) (F.sure folder.old) (F.faults folder.old) (F.faults folder.new)
         (sinking (K.taken out.old) (K.taken out.new) (K.faults out.old) (K.faults out.new))) turn front result }
@@ -89,7 +89,7 @@ fn share_bridge<R: Threads + Wait + Sync, F: Folder, K: Sink, G: Gate>(
 ) -> Status
     requires first { IsWithoutBridge first.now }
     requires second { IsWithoutBridge second.now }
-    // Whichever job the scripts were loaded for, by where it stands with its files.
+    // Whichever job the scripts were loaded for, by where it is with its files.
     ensures ends { (turn : List (List ℕ) → FileTurn ShareTask) (front : List (List ℕ)) → ((files : List (List ℕ)) → turn (front ++ files) ≡ bridge_turn order first.now second.now name.now files)
         → EndsFrom share_outcomes (surroundings (F.told folder.old) (F.sure folder.old) (F.faults folder.old) (F.faults folder.new)
         (sinking (K.taken out.old) (K.taken out.new) (K.faults out.old) (K.faults out.new))) turn front result }

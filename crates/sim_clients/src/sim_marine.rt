@@ -52,7 +52,7 @@ impl SimMarine {
         hull_pairs(alloc, craft, craft.start())
     }
 
-    /// One turn: it hears a mail, moves this vehicle for so many milliseconds, from 1 to 1,000,000, and gives where the vehicle is then
+    /// One turn: it hears a mail, moves this vehicle for `period` milliseconds, from 1 to 1,000,000, and gives where the vehicle is then
     /// and how it moves, which it posts.
     pub fn turn(
         &mut self,

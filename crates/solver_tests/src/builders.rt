@@ -53,7 +53,7 @@ fn level(rt: &impl Abort, alloc: Global, domain: &Domain, pieces: Vec<Piece>) ->
     Func::make(alloc, domain, pieces).expect(rt, "a function")
 }
 
-// A function of value 0 in so many pieces of this size, the last of which may be shorter.
+// A function of value 0 in `count` pieces of this size, the last of which may be shorter.
 fn runs(rt: &impl Abort, alloc: Global, domain: &Domain, count: u32, size: u32) -> Func
     ensures axes { result.axes ≡ domain.now }
     ensures first { IsTrue (is_level_on 0 result.pieces) }

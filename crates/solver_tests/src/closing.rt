@@ -85,7 +85,7 @@ fn close_root(
     }
 }
 
-/// A pile that takes these is left with so many nodes, if so many were closed and this key was found, whose sum all know.
+/// A pile that takes these is left with `left` nodes, after `closed` were closed and this key was found, whose sum all know.
 fn leaves(
     rt: &impl Abort,
     alloc: Global,

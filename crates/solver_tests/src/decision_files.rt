@@ -62,7 +62,7 @@ fn refusals(rt: HostRuntime) {
     assert_eq!(rt; empty, Some(at_1));
 }
 
-/// A decision with one line of so many numbers.
+/// A decision with one line of `numbers` numbers.
 fn long_path(rt: &impl Abort, alloc: Global, numbers: u32) -> Vec<u8> {
     let mut text = joined(rt, alloc, LEVEL, b"decision 0 700\ncut");
     for _ in 0..numbers {

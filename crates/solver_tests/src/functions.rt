@@ -1,4 +1,4 @@
-// Functions by their pieces: partitions, values, how many may be.
+// Functions by their pieces: partitions, values, how many there may be.
 ghost use Rattle.std.specs.Prelude.{◌≡◌, ◌<◌, IsTrue};
 ghost use Rattle.ivp_domain.specs.Domains.{is_point};
 

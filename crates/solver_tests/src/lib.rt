@@ -4,11 +4,13 @@
 //! module for each subject, by the layers from the lowest, and `made`, which makes problems for them: `domains`, `functions`,
 //! `problems`, `shared_word`, `search` by one, `closing` of nodes, `whole_searches` by several workers and their `teams`, `shapes`
 //! and `formulas` of the builders and `builders` that are asked for too many pieces, `problem_files` and `decision_files` of
-//! the texts, and `decisions` with their certificates.
+//! the texts, `decisions` with their certificates, and `changed_decisions`, most of which aren't accepted.
 #![tactic(auto)]
 
 #[cfg(test)]
 mod builders;
+#[cfg(test)]
+mod changed_decisions;
 #[cfg(test)]
 mod closing;
 #[cfg(test)]

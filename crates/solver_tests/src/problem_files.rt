@@ -240,7 +240,7 @@ fn refusals(rt: HostRuntime) {
     }
 }
 
-// So many functions over two points.
+// `count` functions over two points.
 fn functions(rt: &impl Abort, alloc: Global, count: u32) -> Vec<u8> {
     let mut text = Vec::new(alloc);
     text.extend_from_slice(b"ivp 1\ndomain a:0:1:2\n")
@@ -269,7 +269,7 @@ fn most_functions(rt: HostRuntime) {
     assert_eq!(rt; read(&rt, alloc, &text).err(), Some(refused));
 }
 
-// A function of so many pieces, each of one point, over 4,096 points.
+// A function of `count` pieces, each of one point, over 4,096 points.
 fn pieces(rt: &impl Abort, alloc: Global, count: u32) -> Vec<u8> {
     let mut text = Vec::new(alloc);
     text.extend_from_slice(b"ivp 1\ndomain a:0:1:4096\nfunction 1\n")

@@ -37,7 +37,7 @@ fn forked(rt: &impl Abort, alloc: Global) -> Problem {
     problem_of(rt, alloc, places(rt), &all)
 }
 
-/// Whether a count comes to so many within 100,000,000 looks.
+/// Whether a count reaches `many` within 100,000,000 looks.
 fn comes_to(count: &AtomicU64, many: u64) -> bool {
     for _ in 0..100_000_000u32 {
         if count.load(Ordering::SeqCst) >= many {
@@ -110,7 +110,7 @@ impl Gate for Holding {
     fn at_call(&self, _client: u32, _nth: u64) {}
 }
 
-/// Holds worker 0 until worker 1 has come to so many nodes.
+/// Holds worker 0 until worker 1 has come to `many` nodes.
 fn gate_until(many: u64) -> Holding {
     Holding {
         many,

@@ -3,7 +3,7 @@ use Rattle.std.specs.List.{list_any}
 use Rattle.std.proofs.lemmas.List.Edits.{map_over_more}
 use Rattle.std.proofs.lemmas.Option.{slice_get-get_or}
 use Rattle.moos_mail.proofs.Lists.{list_any-push, take-next}
-use Rattle.moos_db.specs.Subscriptions.{SubscriptionNow, caught_at, is_new_at}
+use Rattle.moos_db.specs.Subscriptions.{SubscriptionState, caught_at, is_new_at}
 use Rattle.moos_db.proofs.subscriptions.catch_all.Goals as goal
 
 still-there : {X : Type 0} (f : X → X) (xs : List X) (i : ℕ) (x : X) → i < length xs → x ≡ get_or (map f (take i xs) ++ drop i xs) i x → x ≡ get_or xs i x
@@ -13,9 +13,9 @@ still-there f (y ∷ xs) (suc i) x below is = still-there f xs i x (omega arith)
 
 pub loop-k-preserved : goal.loop-k-preserved
 loop-k-preserved c =
-    let old : List SubscriptionNow = c.args.subscriptions.now.items in
+    let old : List SubscriptionState = c.args.subscriptions.now.items in
     let k = c.loop-k.k in
-    let one : SubscriptionNow = c.index_mut.result.now in
+    let one : SubscriptionState = c.index_mut.result.now in
     let catch = caught_at c.args.client c.args.made c.args.stamp c.args.source.now in
     let is_new = is_new_at c.args.client c.args.made c.args.source.now in
     let below : k < length old = omega (arith, c.loop-k-test.true) in

@@ -5,7 +5,7 @@ use Rattle.std.proofs.lemmas.List.Elements.{All-append, All-weaker}
 use Rattle.std.proofs.lemmas.Option.{slice_get-get_or}
 use Rattle.moos_post.specs.Patterns.{matches}
 use Rattle.moos_db.specs.Clients.{ClientState}
-use Rattle.moos_db.specs.Subscriptions.{SubscriptionNow, fresh_subscription, fresh_subscriptions, lives_at, of_client}
+use Rattle.moos_db.specs.Subscriptions.{SubscriptionState, fresh_subscription, fresh_subscriptions, lives_at, of_client}
 use Rattle.moos_db.proofs.Hearing.{fresh-within, others-more, own-more}
 use Rattle.moos_db.proofs.subscriptions.first_subscriptions.Goals as goal
 
@@ -31,8 +31,8 @@ loop-number-preserved c =
         | inl same ↦ absurd (omega (arith, from, eqb-true number client same))
         | inr apart ↦ ap (of_client client) all ∙ others-more number client old matching apart ∙ c.loop-number.invariant.none client (omega (arith, from))
       ];
-      within = subst (λ subscriptions. All (λ (subscription : SubscriptionNow). subscription.client < number + 1) subscriptions) (sym all)
-          (All-append (λ (subscription : SubscriptionNow). subscription.client < number + 1) old (map (fresh_subscription number) matching)
-          (All-weaker (λ (subscription : SubscriptionNow). subscription.client < number) (λ subscription. subscription.client < number + 1) (λ subscription lower. omega (arith, lower)) old c.loop-number.invariant.within)
+      within = subst (λ subscriptions. All (λ (subscription : SubscriptionState). subscription.client < number + 1) subscriptions) (sym all)
+          (All-append (λ (subscription : SubscriptionState). subscription.client < number + 1) old (map (fresh_subscription number) matching)
+          (All-weaker (λ (subscription : SubscriptionState). subscription.client < number) (λ subscription. subscription.client < number + 1) (λ subscription lower. omega (arith, lower)) old c.loop-number.invariant.within)
           (fresh-within number (number + 1) matching (omega arith)));
     }

@@ -3,8 +3,8 @@ use Rattle.std.proofs.lemmas.Result.{err_from_is_err_and}
 use Rattle.moos_text.specs.Lines.{first_line}
 use Rattle.moos_text.specs.Refusals.{IsFirst}
 use Rattle.moos_text.proofs.Walks.{all_read, IsNext, one_read, one_refused}
-use Rattle.moos_share.specs.BridgeFiles.{after_bridge_line, after_said, rules_of}
-use Rattle.moos_share.proofs.Following.{bridge_read, whole}
+use Rattle.moos_share.specs.BridgeFiles.{after_said, rules_of}
+use Rattle.moos_share.proofs.Following.{after_bridge_line, bridge_read, whole}
 use Rattle.moos_share.proofs.Kept.{rules_good}
 use Rattle.moos_share.proofs.reading.read_bridge.Goals as goal
 

@@ -1,6 +1,6 @@
 use Rattle.std.proofs.Common.{[], length}
 use Rattle.moos_text.proofs.Walks.{IsRead}
-use Rattle.moos_share.specs.BridgeFiles.{after_bridge_line}
+use Rattle.moos_share.proofs.Following.{after_bridge_line}
 use Rattle.moos_share.proofs.reading.read_bridge.Given as goal
 
 abbrev pub invariant-loop-said : goal.invariant-loop-said
