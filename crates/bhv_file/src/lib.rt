@@ -4,8 +4,8 @@
 //! one parameter of a behaviour exactly if its name and its value are good. `bhv_reader` makes a file of bytes, and asks
 //! this layer which parameter a name means and what its value says.
 //!
-//! Read `decl`, `common`, `spec` and `file`; then `table`, which says what parameters there are, `setting` with `places`, and
-//! `put`; `out` needs none of these. Of specs/ read `Table`, `Values` and `Params`, `Paths`, `Ranges` and `Validity`.
+//! Read `decl`, `common`, `spec` and `file`; then `table`, which says what parameters there are, `setting` with `places`, `put`
+//! and `relations`; `out` needs none of these. Of specs/ read `Table`, `Values` and `Params`, `Paths`, `Ranges` and `Validity`.
 #![tactic(auto)]
 
 mod axis;
@@ -23,7 +23,7 @@ mod spec;
 mod table;
 mod updating;
 
-pub use axis::{axis_number, has_axis};
+pub use axis::{axis_named, axis_number, has_axis};
 pub use common::Common;
 pub use decl::{Conds, Decl, Decls};
 pub use file::{BhvFile, Block, Blocks, Unused, UnusedList};

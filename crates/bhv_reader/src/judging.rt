@@ -1,4 +1,4 @@
-// Which axes a behaviour needs.
+// Whether a domain has the axes that a behaviour needs.
 ghost use Rattle.std.specs.Prelude.{◌≡◌};
 ghost use Rattle.bhv_file.specs.Params.{has_axes};
 

@@ -4,7 +4,7 @@
 //! its first refusal with its line and cause, and every file that it gives is valid. What a file says is `bhv_file`, whose
 //! types are given on from here.
 //!
-//! Read `types`, then `behavior` with `element`, `name` and `judging`, and `parent` and `mode`; `reading`, and `read` last. Of
+//! Read `types`, then `behavior` with `element` and `judging`, and `parent` and `mode`; `reading`, and `read` last. Of
 //! specs/ read `Blocks` and `Behaviors`; `Places` serves the reader alone.
 #![tactic(auto)]
 

@@ -35,7 +35,7 @@ in_order order (Num a) (Num b) = order a b
 in_order order (Num a) (Text b) = false
 in_order order (Text a) b = false
 
--- the value is so to the literal
+-- the value is to the literal as the operator says
 abbrev pub compares : Operator → Value → Value → Bool
 compares Equal value literal = same_value value literal
 compares Unequal value literal = not (same_value value literal)

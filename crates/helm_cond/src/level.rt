@@ -9,7 +9,7 @@ pub(crate) struct Level {
     any: bool,
     // All holds that the last alternative asks for so far.
     all: bool,
-    // An odd number of `not` is before what comes next.
+    // An odd number of `not`s is before what comes next.
     negated: bool,
 }
 

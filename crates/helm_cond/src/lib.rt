@@ -5,7 +5,7 @@
 //! of what is known and of the mode, as the definition of that name does.
 //!
 //! Read `comparison` and `operator`, `info`, and `cond`. `token`, `reading` and `cursor` serve its reader: the tokens of a
-//! text, the symbols that they make, and where which may be. `level` and `levels` serve `holds`: what was read of each
+//! text, the symbols that they make, and where each may be. `level` and `levels` serve `holds`: what was read of each
 //! level of parentheses; `compare` and `mode` say whether one comparison holds. `law` says that what is read is what the
 //! grammar spells, as a grammar is written (`Phrases`). Of specs/ read `Phrases`, `Conditions`, `Grammar`, `Learnt` and
 //! `Infos`; the others serve the files of their names.

@@ -5,14 +5,12 @@ use Rattle.std.specs.Prelude.{IfSome, IsTrue, is_some, nat_lt, option_map, posit
 use Rattle.std.specs.Option.{option_to_list}
 use Rattle.std.specs.List.{All, cons_option, filter_map, position_from}
 use Rattle.std.proofs.lemmas.Bool.Decides.{Decides-int_eq, nat_tests}
-use Rattle.std.proofs.lemmas.Grind.{common_steps}
 use Rattle.std.proofs.lemmas.Iterator.Adapters.{position_from-zero}
 use Rattle.std.proofs.lemmas.List.Elements.{All-cons, All-head, All-nil, All-tail, All-weaker}
 use Rattle.std.proofs.lemmas.Option.{slice_get-get_or}
 use Rattle.std.proofs.lemmas.Slice.Eq.{bytes_eq-Decides}
 use Rattle.ivp_domain.specs.declared.axis.Axis.{Axis}
 use Rattle.ivp_domain.specs.Axes.{no_axis, value_on}
-use Rattle.ivp_domain.specs.Domains.{is_domain}
 use Rattle.ivp_domain.specs.declared.boxes.Point.{Point}
 use Rattle.ivp_func.specs.Functions.{Function}
 use Rattle.ivp_problem.specs.declared.term.Term.{Term}
@@ -116,6 +114,3 @@ pub number_there : (axes : List Axis) (point : Point) (k : ℕ) (number : ℤ) �
 number_there axes point k number within is =
     let there : slice_get axes k ≡ Some (get_or axes k no_axis) = slice_get-get_or axes k no_axis within in
     subst (λ found. IfSome found (λ (axis : Axis). number ≡ value_on axis (slice_index point.at k))) there is
-
-pub few_axes : (axes : List Axis) → is_domain axes ≡ true → length axes ≤ 4
-few_axes axes lawful = grind (arith, nat_tests, common_steps)

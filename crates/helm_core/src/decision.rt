@@ -1,5 +1,5 @@
 // What the active behaviours decide together.
-ghost use Rattle.std.specs.Prelude.{◌≡◌, ◌<◌, ◌≤◌, ◌++◌, bytes_eq, codes, length, position, IfOk, IfSome, IsTrue, OnOk};
+ghost use Rattle.std.specs.Prelude.{◌≡◌, ◌<◌, ◌≤◌, ◌++◌, codes, length, IfOk, IfSome, IsTrue, OnOk};
 ghost use Rattle.std.specs.List.{All, filter_map};
 ghost use Rattle.std.specs.Option.{option_to_list};
 ghost use Rattle.moos_post.specs.Words.{IsMilli};
@@ -14,8 +14,9 @@ use crate::decided::Decided;
 use crate::own_names::OwnNames;
 use crate::posts::add_number;
 use crate::showing::TurnShown;
+use bhv_file::axis_named;
 use ivp_cert::Decision;
-use ivp_domain::{Axis, Domain, Point};
+use ivp_domain::{Domain, Point};
 use ivp_problem::{Problem, Term};
 use moos_io::Gate;
 use moos_post::{Batch, Name, NoMemory};
@@ -165,16 +166,8 @@ fn number_on(domain: &Domain, name: &[u8], point: &Point) -> i64
     ensures number { result ≡ number_on domain.now name.now point.now }
     ensures within { IsMilli result }
 {
-    match axis_named(domain.all(), name) {
+    match axis_named(domain, name) {
         Some(place) => domain.value(place as u32, point.at[place]),
         None => 0,
     }
-}
-
-// The place of the axis of this name.
-fn axis_named(axes: &[Axis], name: &[u8]) -> Option<usize>
-    ensures place { result ≡ position (λ axis. bytes_eq axis.name name.now) axes.now }
-    ensures within { IfSome result (λ place. place < length axes.now) }
-{
-    axes.iter().position(|axis| axis.name.bytes() == name)
 }

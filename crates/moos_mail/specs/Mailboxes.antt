@@ -36,7 +36,7 @@ abbrev pub AreNumberRanges : ℕ → List NumberRange → Type 0
 AreNumberRanges from [] = Unit {0}
 AreNumberRanges from (number_range ∷ number_ranges) = (from ≤ number_range.first) × (number_range.first ≤ number_range.last) × AreNumberRanges (suc number_range.last) number_ranges
 
--- where the range of the number is among these, or would: those in front end below it, and no other does
+-- where the range of the number is among these, or would be: those in front end below it, and no other does
 pub record IsPlaceAmong (number : ℕ) (number_ranges : List NumberRange) (place : ℕ) : Type 0 where
   pub within : place ≤ length number_ranges
   pub below : (k : ℕ) (d : NumberRange) → k < place → (slice_index_or number_ranges k d).last < number

@@ -9,7 +9,7 @@ pub(crate) struct NumberRange {
     last: u64,
 }
 
-// Where the range of the number is among these, or would. A number that is mailed is mostly above all before it, so the
+// Where the range of the number is among these, or would be. A number that is mailed is mostly above all before it, so the
 // last range is looked at first.
 fn place_of(number_ranges: &[NumberRange], number: u64) -> usize
     requires { AreNumberRanges 0 number_ranges.now }

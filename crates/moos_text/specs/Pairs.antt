@@ -47,7 +47,7 @@ abbrev pub plain_value : Option ℤ → List ℕ → Result Value PairFault
 plain_value (Some number) bytes = Ok (Num number)
 plain_value None bytes = text_value bytes
 
--- the value that stands on the right: quoted, or not empty and a text if it must be one
+-- the value on the right: quoted, or not empty and a text if it must be one
 abbrev pub written_value : Bool → List ℕ → Result Value PairFault
 written_value as_text [] = Err BadValue
 written_value as_text (first ∷ rest) =

@@ -15,7 +15,7 @@ use std::alloc::Global;
 // The most registrations of a client.
 const MAX_REGISTRATIONS: u32 = 256;
 
-/// The call that the words ask for, of a client that has made so many registrations. `variables` gains those of a post.
+/// The call that the words ask for, of a client that has made `made` registrations. `variables` gains those of a post.
 pub fn call_of(
     alloc: Global,
     made: u32,
@@ -78,7 +78,7 @@ fn reg_of(
     })
 }
 
-// One registration more of a client that has made so many.
+// One registration more of a client that has made `made`.
 fn register_one(alloc: Global, made: u32, reg: Reg) -> Result<Call, LineFault>
     ensures call { IfOk result (λ call. register_one made reg ≡ Ok call) }
     ensures refused { IfErr result (λ fault. IsLineFault fault (register_one made reg)) }

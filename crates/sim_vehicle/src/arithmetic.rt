@@ -33,7 +33,7 @@ pub fn mul_div(one: i64, other: i64, by: i64) -> i128
     one as i128 * other as i128 / by as i128
 }
 
-/// What a rate a second comes to in so many milliseconds, in millionths.
+/// What a rate a second comes to in `dt` milliseconds, in millionths.
 pub fn in_step(rate: i64, dt: u64) -> i64
     requires rate { Lies (pos 0) (pos 100000) rate }
     requires dt { dt ≤ 10 ^ 6 }

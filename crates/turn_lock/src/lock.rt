@@ -33,7 +33,7 @@ impl<S: Journaled> Model for TurnLock<S> {
 }
 
 impl<S: Journaled> TurnLock<S> {
-    /// A lock over this value, which has no events yet, with its first pass. There may be so many passes. If no memory
+    /// A lock over this value, which has no events yet, with its first pass. There may be `passes` of them. If no memory
     /// is left the value comes back.
     pub fn make(alloc: Global, value: S, passes: u32) -> Result<(TurnLock<S>, Pass<S>), S>
         requires some { 1 ≤ passes }
