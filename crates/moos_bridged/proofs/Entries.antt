@@ -23,7 +23,7 @@ use Rattle.moos_post.specs.Words.{begins_name, is_name, is_name_byte}
 use Rattle.moos_bridged.proofs.Counts.{carried_few, lines_few, posts_fewer}
 use Rattle.moos_bridged.proofs.Lines.{lines_below}
 use Rattle.moos_bridged.specs.Entries.{AreEntries}
-use Rattle.moos_share.specs.Bridged.{bridge_number, bridge_opening, fetches_on, has_stamp, HasOwnLines, IsShared, KeepsBridge, names_bridged, shared_entry}
+use Rattle.moos_share.specs.Bridged.{bridge_number, bridge_opening, fetches_on, has_stamp, HasOwnLines, IsBridged, IsShared, KeepsBridge, names_bridged, shared_entry}
 use Rattle.moos_share.specs.declared.rule.Rule.{Rule}
 use Rattle.moos_share.specs.Fetches.{fetch_entry, fetches_in, MailedFetch}
 use Rattle.moos_share.specs.Renaming.{carried_by, carried_name, prefix_bytes, renamed, rule_for}
@@ -34,7 +34,7 @@ use Rattle.script_reader.specs.declared.script.Script.{Script}
 use Rattle.script_reader.specs.Validity.{IsValid}
 
 -- what holds of each client's entries holds of all
-all_entries : (P : Entry → Type 0) (history : History) → ((client : ℕ) → All P (entries_of client history)) → All P history
+pub all_entries : (P : Entry → Type 0) (history : History) → ((client : ℕ) → All P (entries_of client history)) → All P history
 all_entries P [] each = All-nil P
 all_entries P (entry ∷ later) each = All-cons P entry later first (all_entries P later (λ client. rest client (entry.client == client) (each client)))
   where
@@ -46,7 +46,7 @@ all_entries P (entry ∷ later) each = All-cons P entry later first (all_entries
     rest client false all = all
 
 -- what holds of a script's lines and of the bridge's entries holds of all
-all_own : (P : Entry → Type 0) (script : Script) (history : History) → HasOwnLines script history → All P script.lines → All P (entries_of (bridge_number script) history) → All P history
+pub all_own : (P : Entry → Type 0) (script : Script) (history : History) → HasOwnLines script history → All P script.lines → All P (entries_of (bridge_number script) history) → All P history
 all_own P script history own lines bridge = all_entries P history (λ client. by client (cases_eq client (bridge_number script)))
   where
     by : (client : ℕ) → (client ≡ bridge_number script) ⊎ (client ≢ bridge_number script) → All P (entries_of client history)
@@ -93,30 +93,36 @@ front_all : (P : Entry → Type 0) (front rest : History) → All P (front ++ re
 front_all P [] rest all = All-nil P
 front_all P (entry ∷ front) rest all = All-cons P entry front (All-head P entry (front ++ rest) all) (front_all P front rest (All-tail P entry (front ++ rest) all))
 
+-- what holds of the letters of posts that are there holds of the letters with these numbers
+pub letters_keep : (P : Letter → Type 0) (posts : List Post) (numbers : List ℕ) → All (λ n. (post : Post) → slice_get posts n ≡ Some post → P (letter_of n post)) numbers → All P (letters_at posts numbers)
+letters_keep P posts [] all = All-nil P
+letters_keep P posts (n ∷ numbers) all =
+    All-append P (option_to_list (option_map (letter_of n) (slice_get posts n))) (letters_at posts numbers) (by (slice_get posts n) refl) (letters_keep P posts numbers (All-tail Keeps n numbers all))
+  where
+    Keeps : ℕ → Type 0
+    Keeps n = (post : Post) → slice_get posts n ≡ Some post → P (letter_of n post)
+
+    by : (post : Option Post) → slice_get posts n ≡ post → All P (option_to_list (option_map (letter_of n) post))
+    by None there = All-nil P
+    by (Some post) there = All-cons P (letter_of n post) [] (All-head Keeps n numbers all post there) (All-nil P)
+
 -- so are the letters of a fetch
 letters_posted : (posts : List Post) (numbers : List ℕ) → All IsPosted posts → All (λ (letter : Letter). IsPosted letter.post) (letters_at posts numbers)
-letters_posted posts [] all = All-nil (λ (letter : Letter). IsPosted letter.post)
-letters_posted posts (n ∷ numbers) all =
-    All-append IsFine (option_to_list (option_map (letter_of n) (slice_get posts n))) (letters_at posts numbers) (by (slice_get posts n) refl) (letters_posted posts numbers all)
-  where
-    IsFine : Letter → Type 0
-    IsFine letter = IsPosted letter.post
-
-    by : (post : Option Post) → slice_get posts n ≡ post → All IsFine (option_to_list (option_map (letter_of n) post))
-    by None there = All-nil IsFine
-    by (Some post) there =
-        All-cons IsFine (letter_of n post) [] (subst IsPosted (get_or_from_slice_get posts n post post there) (all n post (slice_get_within posts n post there))) (All-nil IsFine)
+letters_posted posts numbers all =
+    letters_keep (λ (letter : Letter). IsPosted letter.post) posts numbers
+    (λ k d within. (let n = get_or numbers k d in λ post there. subst IsPosted (get_or_from_slice_get posts n post post there) (all n post (slice_get_within posts n post there))))
 
 -- a name with a prefix before it is a name, unless it is too long
 name_bytes : (name : List ℕ) → is_name name ≡ true → list_all is_name_byte name ≡ true
 name_bytes [] is = absurd cc
 name_bytes (first ∷ rest) is = (and_parts (begins_name first) (list_all is_name_byte (first ∷ rest)) (and_parts (begins_name first && list_all is_name_byte (first ∷ rest)) (nat_le (length (first ∷ rest)) 64) is).0).1
 
-name_carried : (prefix : Option (List ℕ)) (var : List ℕ) → IfSome prefix (λ prefix. IsTrue (is_name prefix)) → is_name var ≡ true → nat_le (length (prefix_bytes prefix ++ var)) 64 ≡ true → is_name (prefix_bytes prefix ++ var) ≡ true
+name_carried : (prefix : Option (List ℕ)) (var : List ℕ) → IfSome prefix (λ prefix. IsTrue (is_name prefix && nat_le (length prefix) 32)) → is_name var ≡ true → nat_le (length (prefix_bytes prefix ++ var)) 64 ≡ true → is_name (prefix_bytes prefix ++ var) ≡ true
 name_carried None var named is short = is
 name_carried (Some []) var named is short = absurd cc
 name_carried (Some (first ∷ rest)) var named is short =
-    let front = and_parts (begins_name first) (list_all is_name_byte (first ∷ rest)) (and_parts (begins_name first && list_all is_name_byte (first ∷ rest)) (nat_le (length (first ∷ rest)) 64) named).0 in
+    let name = (and_parts (is_name (first ∷ rest)) (nat_le (length (first ∷ rest)) 32) named).0 in
+    let front = and_parts (begins_name first) (list_all is_name_byte (first ∷ rest)) (and_parts (begins_name first && list_all is_name_byte (first ∷ rest)) (nat_le (length (first ∷ rest)) 64) name).0 in
     and_from (begins_name first && list_all is_name_byte (first ∷ rest ++ var)) (nat_le (length (first ∷ rest ++ var)) 64)
     (and_from (begins_name first) (list_all is_name_byte (first ∷ rest ++ var)) front.0
     (list_all-append is_name_byte (first ∷ rest) var ∙ and_from (list_all is_name_byte (first ∷ rest)) (list_all is_name_byte var) front.1 (name_bytes var is)))
@@ -203,6 +209,16 @@ stamps_early Race first second rules one rest two valid also keeps =
     (All-map IsEarly (λ (line : Entry). line.stamp) first.lines (All-weaker IsEntry (λ (line : Entry). IsEarly line.stamp) (λ line is. is.stamp) first.lines valid.entries))
     (All-cons IsEarly (max first.stop second.stop) [] (omega (arith, valid.early, also.early)) (All-nil IsEarly))))
 
+-- the bridge's entries in the first community
+pub own_entries : (order : Order) (first second : Script) (rules : List Rule) (one two : History) → IsBridged order first second rules one two
+    → entries_of (bridge_number first) one ≡ bridge_opening first rules ∷ map (fetch_entry (bridge_number first)) (fetches_on first one)
+own_entries order first second rules one two bridged =
+    ap (entries_of n) bridged.opened ∙ ap (λ b. cond b (bridge_opening first rules ∷ entries_of n bridged.rest) (entries_of n bridged.rest)) (eq-eqb n n refl)
+    ∙ ap (λ entries. bridge_opening first rules ∷ entries) bridged.fetched
+  where
+    n : ℕ
+    n = bridge_number first
+
 module _ (order : Order) (first second : Script) (rules : List Rule) (one two : History) (valid : IsValid first) (also : IsValid second) (good : All IsRule rules) (so : IsShared order first second rules one two) where
   abbrev names : List (List ℕ)
   names = names_bridged first
@@ -219,16 +235,10 @@ module _ (order : Order) (first second : Script) (rules : List Rule) (one two : 
   stamps : All (λ (one : MailedFetch). IsEarly one.stamp) fetches
   stamps = stamps_early order first second rules one so.bridged.rest two valid also so.bridged.ordered
 
-  -- the bridge's entries in the first community
-  own_first : entries_of n one ≡ opening ∷ map (fetch_entry n) fetches
-  own_first =
-      ap (entries_of n) so.bridged.opened ∙ ap (λ b. cond b (opening ∷ entries_of n so.bridged.rest) (entries_of n so.bridged.rest)) (eq-eqb n n refl)
-      ∙ ap (λ entries. opening ∷ entries) so.bridged.fetched
-
   entries_first : All IsEntry one
   entries_first =
       all_own IsEntry first one so.first_lines valid.entries
-      (subst (All IsEntry) (sym own_first)
+      (subst (All IsEntry) (sym (own_entries order first second rules one two so.bridged))
       (All-cons IsEntry opening (map (fetch_entry n) fetches)
       (record { stamp = omega arith; call = All-map IsReg (λ (rule : Rule). rule.reg) rules (All-weaker IsRule (λ (rule : Rule). IsReg rule.reg) (λ rule is. is.reg) rules good) })
       (All-map IsEntry (fetch_entry n) fetches (All-weaker (λ (one : MailedFetch). IsEarly one.stamp) (λ one. IsEntry (fetch_entry n one)) (λ one early. record { stamp = early; call = tt }) fetches stamps))))
@@ -249,7 +259,7 @@ module _ (order : Order) (first second : Script) (rules : List Rule) (one two : 
         where
           by : (client ≡ n) ⊎ (client ≢ n) → length (posts_of (entries_of client one)) ≤ length (posts_of (entries_of client first.lines))
           by (inl same) =
-              let none : length (posts_of (entries_of client one)) ≡ 0 = ap (λ client. length (posts_of (entries_of client one))) same ∙ ap (λ entries. length (posts_of entries)) own_first ∙ ap length (silent fetches) in
+              let none : length (posts_of (entries_of client one)) ≡ 0 = ap (λ client. length (posts_of (entries_of client one))) same ∙ ap (λ entries. length (posts_of entries)) (own_entries order first second rules one two so.bridged) ∙ ap length (silent fetches) in
               omega (arith, none)
           by (inr other) = let like = ap (λ entries. length (posts_of entries)) (so.first_lines client other) in omega (arith, like)
 

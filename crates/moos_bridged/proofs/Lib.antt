@@ -6,7 +6,9 @@ pub mod CarryingLines
 pub mod Counts
 pub mod Ending
 pub mod Entries
+pub mod Examples
 pub mod Fronts
+pub mod LeftOut
 pub mod Lines
 pub mod Mailed
 pub mod Moments

@@ -3,6 +3,7 @@ pub mod Communities
 pub mod Ending
 pub mod Entries
 pub mod Fronts
+pub mod LeftOut
 pub mod Opening
 pub mod Racing
 pub mod Stamping

@@ -2,7 +2,7 @@
 //!
 //! The contract for the layer above: with Ok the two histories are bridged, whatever the threads did. All entries
 //! but the bridge's are the scripts' lines, each client's in order. At every place of the second history the bridge has posted the
-//! renaming of a front of what the first mails to it (`bridged_law`).
+//! renaming of a front of what the first mails to it, which leaves out no letter if no new name is too long (`bridged_law`).
 //!
 //! Reading order: `community`, one of the two; `crossing`, one carrying while nobody else calls; `by_stamp`, from one stamp to the
 //! next; `race`, all lines at once; `sharing`, the whole; `law`.

@@ -2,7 +2,7 @@
 use Rattle.std.proofs.Common.{◌≡◌, ℕ, ◌&&◌, ◌==◌, cond, nat_le, List, [], ◌∷◌, ◌++◌, length, codes, bytes_eq, Option, Some, None, arith}
 use Rattle.std.specs.Prelude.{IfOk, IfSome, IsTrue, ok_or, Result, Ok, Err}
 use Rattle.std.specs.List.{All}
-use Rattle.std.proofs.lemmas.Bool.{and_parts, leb-true}
+use Rattle.std.proofs.lemmas.Bool.{leb-true}
 use Rattle.std.proofs.lemmas.List.Elements.{All-nil, All-push}
 use Rattle.moos_post.specs.Words.{is_name, is_pattern}
 use Rattle.moos_text.specs.declared.cause.Cause.{Cause}
@@ -31,12 +31,12 @@ interval_good word = at (time_of word) (time_early word)
     at (Some time) early = early
 
 abbrev IsPrefix : Option (List ℕ) → Type 0
-IsPrefix prefix = IfSome prefix (λ prefix. IsTrue (is_name prefix))
+IsPrefix prefix = IfSome prefix (λ prefix. IsTrue (is_name prefix && nat_le (length prefix) 32))
 
 prefix_good : (word : List ℕ) → IfOk (prefix_word word) IsPrefix
 prefix_good word =
     cond_good IsPrefix (bytes_eq word (codes "-")) (Ok None) (cond (is_name word && nat_le (length word) 32) (Ok (Some word)) (Err G5)) (λ _. tt)
-    (λ _. cond_good IsPrefix (is_name word && nat_le (length word) 32) (Ok (Some word)) (Err G5) (λ is. (and_parts (is_name word) (nat_le (length word) 32) is).0) (λ _. tt))
+    (λ _. cond_good IsPrefix (is_name word && nat_le (length word) 32) (Ok (Some word)) (Err G5) (λ is. is) (λ _. tt))
 
 -- the rule of a line
 from_good : (line : ℕ) (var source interval prefix : List ℕ) → IfOk (rule_from line var source interval prefix) IsRule
