@@ -3,8 +3,8 @@ use Rattle.std.proofs.Common.{◌≡◌, ℕ, suc, ◌+◌, [], ◌++◌, append
 use Rattle.std.specs.Prelude.{Err, is_some, None, Ok, OnErr, OnOk, Option, Result, Some}
 use Rattle.contact_avoid.specs.declared.ranges.Ranges.{Ranges}
 use Rattle.moos_play.proofs.Below.{names_more}
-use Rattle.moos_play.specs.Lawful.{names_with, HelmSetup}
-use Rattle.moos_play.specs.Plays.{clients_in, GoesOnWith, helm_in, history_in, IsBetween, Playing, script_played, StaysSeated}
+use Rattle.moos_play.specs.Lawful.{known_clients, names_with, HelmSetup}
+use Rattle.moos_play.specs.Plays.{clients_in, GoesOnWith, helm_in, history_in, IsBetween, known_clients_in, Playing, script_played, StaysSeated}
 use Rattle.moos_simulate.specs.declared.gear.Gear.{Gear}
 use Rattle.moos_simulate.specs.declared.vehicle.Vehicle.{Vehicle}
 use Rattle.moos_simulate.specs.Sailing.{IsBeside, mgr_number, pid_number, sim_number}
@@ -50,6 +50,10 @@ as_many craft (Some ranges) period = refl
 pub room_beside : (vehicle : Vehicle) (helm : HelmSetup) (play : Playing) → IsBeside vehicle helm play → length (clients_in play) ≡ length (script_played play).names + suc (length (vehicle_clients vehicle.gear helm.period))
 room_beside vehicle helm play beside =
     omega (arith, ap length beside.named, length-append (names_with (script_played play) (Some helm)) (gear_names vehicle.gear), names_more (script_played play) helm, as_many vehicle.gear.craft vehicle.gear.ranges helm.period)
+
+-- how many clients the play knows from the start: the script's and the helm
+pub known_beside : (vehicle : Vehicle) (helm : HelmSetup) (play : Playing) → IsBeside vehicle helm play → known_clients_in play ≡ length (script_played play).names + 1
+known_beside vehicle helm play beside = (λ i. known_clients (script_played play) (beside.steered i)) ∙ names_more (script_played play) helm
 
 -- the vehicle's gear, its numbers and its time step stay the same
 pub record IsSameVehicle (old new : Vehicle) : Type 0 where

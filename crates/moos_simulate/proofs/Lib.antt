@@ -4,6 +4,7 @@ pub mod Answering
 pub mod Sailing
 pub mod Rounding
 pub mod Going
+pub mod Adding
 pub mod Voyage
 pub mod Counting
 pub mod Played

@@ -1,20 +1,16 @@
 -- A round of a play beside a simulated vehicle: what the play says of it is what the vehicle's clients need before they answer.
-use Rattle.std.proofs.Common.{◌≡◌, ◌≢◌, ℕ, suc, ◌+◌, ◌-◌, ◌*◌, ◌/◌, ◌<◌, ◌≤◌, ◌==◌, ◌⊎◌, inl, inr, Bool, true, false, cond, List, [], ◌∷◌, ◌++◌, length, length-append, drop, filter, nat_le, nat_lt, Option, None, Some, refl, sym, ap, subst, ◌∙◌, arith, append-nil}
+use Rattle.std.proofs.Common.{◌≡◌, ◌≢◌, ℕ, suc, ◌+◌, ◌-◌, ◌*◌, ◌/◌, ◌<◌, ◌≤◌, ◌==◌, ◌⊎◌, inl, inr, Bool, true, false, cond, List, [], ◌∷◌, ◌++◌, length, length-append, nat_le, nat_lt, Option, None, Some, refl, sym, ap, subst, ◌∙◌, arith, append-nil}
 use Rattle.std.specs.Prelude.{IfSome, option_map, slice_get}
 use Rattle.std.specs.List.{list_all}
-use Rattle.std.proofs.Math.Seq.{drop-append_seam}
 use Rattle.std.proofs.lemmas.Bool.{and_from, and_parts}
 use Rattle.std.proofs.lemmas.Bool.Decides.{nat_tests}
-use Rattle.std.proofs.lemmas.List.{append_cancel_left}
-use Rattle.std.proofs.lemmas.List.Elements.{filter-append}
 use Rattle.helm_core.specs.declared.iteration.Iteration.{Iteration}
 use Rattle.helm_core.specs.Ticks.{Tick}
 use Rattle.moos_lawful.proofs.Going.{lawful_then}
 use Rattle.moos_lawful.proofs.Parts.{either}
 use Rattle.moos_lawful.proofs.Playable.{is_playable}
 use Rattle.moos_lawful.specs.Answering.{Answerer, turns_from}
-use Rattle.moos_lawful.specs.Schedules.{clients_below, entries_from, IsLawfulSoFar, Schedule}
-use Rattle.moos_play.proofs.Below.{names_more}
+use Rattle.moos_lawful.specs.Schedules.{clients_below, IsLawfulSoFar, Schedule}
 use Rattle.moos_play.proofs.Hearing.{iterations_many}
 use Rattle.moos_play.specs.declared.round_made.Round.{Round}
 use Rattle.moos_play.specs.Lawful.{heard_of, known_clients, KeepsStamp, mailed_in, HelmSetup, ticks_to}
@@ -22,10 +18,11 @@ use Rattle.moos_play.specs.Plays.{AddsAt, clients_in, earliest, GoesOnWith, HasN
 use Rattle.moos_play.specs.Schedules.{answering, schedule_with}
 use Rattle.moos_post.specs.declared.entry.Entry.{Entry}
 use Rattle.moos_post.specs.History.{History}
+use Rattle.moos_simulate.proofs.Adding.{round_known, round_stamped, turn_beside}
 use Rattle.moos_simulate.proofs.Answering.{numbered}
 use Rattle.moos_simulate.proofs.Beside.{left_same, wider}
 use Rattle.moos_simulate.proofs.Counting.{nothing_more}
-use Rattle.moos_simulate.proofs.Going.{beside_on, lawful_on, room_beside}
+use Rattle.moos_simulate.proofs.Going.{beside_on, known_beside, lawful_on, room_beside}
 use Rattle.moos_simulate.proofs.Rounding.{known_alone, part, with_tick, without_tick}
 use Rattle.moos_simulate.specs.declared.vehicle.Vehicle.{Vehicle}
 use Rattle.moos_simulate.specs.Sailing.{HasMadeTurns, hears, IsBeside, IsSailedOut, IsSailing, IsSimulating, IsUnderSail, KeepMails, pid_number}
@@ -50,16 +47,6 @@ next_low : (stop ticks : ℕ) (helm : HelmSetup) (line : Option ℕ) → ticks <
 next_low stop ticks helm line more = earliest_low stop (ticks * helm.period) line (nat_le ticks (stop / helm.period)) (grind (arith, nat_tests, more))
 
 -- ---- lists
-
--- entries none of which is of a client from a number on
-none_from : (number : ℕ) (xs : History) → filter (λ entry. nat_le number entry.client) xs ≡ [] → clients_below number xs ≡ true
-none_from number [] none = refl
-none_from number (x ∷ xs) none = by (nat_le number x.client) refl none (none_from number xs)
-  where
-    by : (b : Bool) → nat_le number x.client ≡ b → cond b (x ∷ filter (λ entry. nat_le number entry.client) xs) (filter (λ entry. nat_le number entry.client) xs) ≡ []
-        → (filter (λ entry. nat_le number entry.client) xs ≡ [] → clients_below number xs ≡ true) → clients_below number (x ∷ xs) ≡ true
-    by true e some others = absurd cc
-    by false e rest others = and_from (nat_lt x.client number) (clients_below number xs) (grind (arith, nat_tests, e)) (others rest)
 
 later_than : (s next : ℕ) (left : List Entry) → s < next → list_all (λ entry. nat_le next entry.stamp) left ≡ true → list_all (λ entry. nat_le (suc s) entry.stamp) left ≡ true
 later_than s next [] less late = refl
@@ -109,10 +96,10 @@ module _ (vehicle : Vehicle) (helm : HelmSetup) (old new : Playing) (sailing : I
 
     -- how many clients it knows
     known_old : known_clients_in old ≡ length script.names + 1
-    known_old = (λ i. known_clients script (beside.steered i)) ∙ names_more script helm
+    known_old = known_beside vehicle helm old beside
 
     known_same : known_clients_in new ≡ length script.names + 1
-    known_same = (λ i. known_clients (on.script i) (helm_same i)) ∙ names_more script helm
+    known_same = (λ i. known_clients (on.script i) (on.helm i)) ∙ known_old
 
     -- how many ticks the helm has made
     made_old : count ≡ old.ticks
@@ -170,27 +157,17 @@ module _ (vehicle : Vehicle) (helm : HelmSetup) (old new : Playing) (sailing : I
         is = stays.later.1
 
         turn : IsTurn old new round
-        turn = subst (λ order. HasTurn order old new round) beside.order has_turn
+        turn = turn_beside vehicle helm old new round beside has_turn
 
         more : left_in old ≢ 0
         more none = absurd (omega (arith, none, fewer))
 
         -- none of its entries is a further client's, and all have its stamp
         below : clients_below (length script.names + 1) later ≡ true
-        below =
-            subst (λ n. clients_below n later ≡ true) known_old
-            (none_from (known_clients_in old) later (append_cancel_left (entries_from (known_clients_in old) history) (entries_from (known_clients_in old) later) []
-            (sym (filter-append (λ entry. nat_le (known_clients_in old) entry.client) history later) ∙ (λ i. entries_from (known_is i) (sym is i)) ∙ is_round.further ∙ sym (append-nil (entries_from (known_clients_in old) history)))))
-          where
-            known_is : known_clients_in old ≡ known_clients_in new
-            known_is = known_old ∙ sym known_same
-
-        behind : drop round.from (history_in new) ≡ later
-        behind = (λ i. drop (is_round.from i) (is i)) ∙ drop-append_seam history later
+        below = subst (λ n. clients_below n later ≡ true) known_old (round_known vehicle helm old new beside on round stays is_round)
 
         one : list_all (λ entry. entry.stamp == next) later ≡ true
-        one = subst (λ later. list_all (λ entry. entry.stamp == next) later ≡ true) behind
-            (subst (λ stamp. list_all (λ entry. entry.stamp == stamp) (drop round.from (history_in new)) ≡ true) is_round.stamp (subst (λ order. KeepsStamp order round.stamp (drop round.from (history_in new))) beside.order is_round.stamped))
+        one = round_stamped vehicle helm old new beside on round stays is_round
 
         now_alone : IsLawfulSoFar alone (history ++ later)
         now_alone = alone_now later is now
@@ -323,7 +300,7 @@ module _ (vehicle : Vehicle) (helm : HelmSetup) (play : Playing) (sailing : IsSa
     none_own = subst (λ schedule. (so : IsLawfulSoFar schedule (history_in play)) (n : ℕ) → n < length script_out.names + 1 → so.left n ≡ []) schedule_out (λ so n below. (left so n (omega (arith, below, known))).none none)
       where
         known : known_clients_in play ≡ length script_out.names + 1
-        known = (λ i. known_clients script_out (beside_out.steered i)) ∙ names_more script_out helm
+        known = known_beside vehicle helm play beside_out
 
     none_turned : (answerer : Answerer Tick) (n : ℕ) → HasMadeTurns whole_out answerer n helm.period (ticks_to script_out.stop helm) (length (iterations_made play)) (history_in play) sailing.sail.so_far → sailing.sail.so_far.left n ≡ []
     none_turned answerer n has = has.left ∙ ap (turns_from answerer n helm.period (hears whole_out n sailing.sail.so_far.rest) (length (iterations_made play))) all_made

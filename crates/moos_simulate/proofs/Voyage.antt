@@ -5,12 +5,11 @@ use Rattle.contact_avoid.specs.declared.ranges.Ranges.{Ranges}
 use Rattle.helm_core.specs.declared.iteration.Iteration.{Iteration}
 use Rattle.moos_db.specs.Database.{letters_after}
 use Rattle.moos_lawful.specs.Schedules.{IsLawfulSoFar}
-use Rattle.moos_play.proofs.Below.{names_more}
-use Rattle.moos_play.specs.Lawful.{known_clients, HelmSetup}
-use Rattle.moos_play.specs.Plays.{clients_in, history_in, IsFurther, known_clients_in, left_in, next_stamp, Playing, script_played}
+use Rattle.moos_play.specs.Lawful.{HelmSetup}
+use Rattle.moos_play.specs.Plays.{clients_in, history_in, IsFurther, left_in, next_stamp, Playing, script_played}
 use Rattle.moos_post.specs.declared.value.Pair.{Pair}
 use Rattle.moos_post.specs.History.{History}
-use Rattle.moos_simulate.proofs.Going.{beside_on, IsSameVehicle, names_on, room_beside}
+use Rattle.moos_simulate.proofs.Going.{beside_on, IsSameVehicle, known_beside, names_on, room_beside}
 use Rattle.moos_simulate.proofs.Sailing.{all_turned, fetched, has_fetched, has_turned, mgr_kept, mgr_numbered, MgrTurned, pid_kept, pid_numbered, PidTurned, posted, sim_kept, sim_numbered, SimTurned}
 use Rattle.moos_simulate.specs.declared.gear.Gear.{Gear}
 use Rattle.moos_simulate.specs.declared.vehicle.Vehicle.{Vehicle}
@@ -220,7 +219,7 @@ module _ (vehicle : Vehicle) (old : Playing) (stamp : ℕ) (now : IsAnswering ve
         -- it has a name, and is none of those known from the start
         pub mgr_further : IsFurther old vehicle.mgr_client
         mgr_further =
-            let known : known_clients_in old ≡ length (script_played old).names + 1 = omega (arith, ap (known_clients (script_played old)) now.beside.steered, names_more (script_played old) now.helm) in
+            let known = known_beside vehicle now.helm old now.beside in
             let many = room_beside vehicle now.helm old now.beside in
             let aboard = many_aboard vehicle.gear now.helm.period (Some set) found.1 in
             record { past = omega (arith, known, now.beside.mgr); named = omega (arith, many, aboard, now.beside.mgr) }

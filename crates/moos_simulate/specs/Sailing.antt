@@ -1,14 +1,14 @@
 -- Where a play is beside its simulated vehicle between two rounds.
-use Rattle.std.specs.Prelude.{◌≡◌, ◌⊎◌, ℕ, suc, ◌-◌, ◌^◌, ◌≤◌, ◌<◌, nat_lt, List, [], ◌∷◌, ◌++◌, length, None, Option, Some, IsTrue}
+use Rattle.std.specs.Prelude.{◌≡◌, ◌⊎◌, ℕ, suc, ◌-◌, ◌^◌, ◌≤◌, ◌<◌, nat_lt, List, [], ◌∷◌, ◌++◌, drop, length, None, Option, Some, IsTrue}
 use Rattle.std.specs.List.{list_all}
 use Rattle.contact_avoid.specs.declared.ranges.Ranges.{Ranges}
 use Rattle.helm_core.specs.declared.iteration.Iteration.{Iteration}
 use Rattle.moos_client.specs.Hearing.{heard_in}
 use Rattle.moos_lawful.specs.Answering.{Answerer, turns_from}
-use Rattle.moos_lawful.specs.Schedules.{IsLawfulSoFar, Schedule}
+use Rattle.moos_lawful.specs.Schedules.{entries_from, IsLawfulSoFar, Schedule}
 use Rattle.moos_play.specs.declared.round_made.Round.{Round}
-use Rattle.moos_play.specs.Lawful.{heard_of, iterations, names_with, opening_of, HelmSetup, ticks_to}
-use Rattle.moos_play.specs.Plays.{clients_in, helm_in, history_in, IsBetween, iterations_made, left_in, next_stamp, order_played, Playing, script_played}
+use Rattle.moos_play.specs.Lawful.{heard_of, iterations, KeepsStamp, names_with, opening_of, HelmSetup, ticks_to}
+use Rattle.moos_play.specs.Plays.{clients_in, helm_in, history_in, IsBetween, IsTurn, iterations_made, known_clients_in, left_in, next_stamp, order_played, Playing, script_played}
 use Rattle.moos_post.specs.declared.value.Pair.{Pair}
 use Rattle.moos_post.specs.History.{History}
 use Rattle.moos_simulate.specs.declared.gear.Gear.{Gear}
@@ -117,9 +117,15 @@ pub record IsSailedOut (gear : Gear) (play : Playing) : Type 0 where
   pub simulated : IsSimulated (script_played play) (helm_in play) gear (clients_in play) (history_in play)
   pub iterations : iterations_made play ≡ iterations (helm_in play) (script_played play).stop (heard_of (clients_in play) (length (script_played play).names) (history_in play))
 
--- What a round was beside a vehicle: where its entries begin, and the helm's iterations in it, which follow those before.
+-- A round beside a vehicle: where its entries begin, its stamp, which they all have, those of the vehicle's clients too, and the helm's
+-- iterations in it, which follow those before. What is next is later, and the helm has made its next tick or none, as in each round of
+-- order Stamp; without a tick none of the entries is a further client's.
 pub record IsRoundBeside (before after : Playing) (round : Round) : Type 0 where
   pub from : round.from ≡ length (history_in before)
+  pub stamp : round.stamp ≡ next_stamp before
+  pub stamped : KeepsStamp Stamp round.stamp (drop round.from (history_in after))
+  pub further : round.iterations ≡ [] → entries_from (known_clients_in after) (history_in after) ≡ entries_from (known_clients_in before) (history_in before)
+  pub turn : IsTurn before after round
   pub iterations : iterations_made after ≡ iterations_made before ++ round.iterations
 
 -- A play beside a vehicle that may yet be completed: with some entries more its history is that of a simulated vehicle, and the

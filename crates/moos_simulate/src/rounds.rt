@@ -1,9 +1,10 @@
 // A play beside a simulated vehicle, from round to round.
-ghost use Rattle.std.specs.Prelude.{◌≡◌, ◌≤◌, ◌<◌, IfNone, IfOk, IfSome, OnErr, OnOk};
-ghost use Rattle.moos_play.specs.Plays.{clients_in, GoesOnWith, helm_in, history_in, left_in, script_played, StaysSeated};
+ghost use Rattle.std.specs.Prelude.{◌≡◌, ◌≤◌, ◌<◌, length, IfNone, IfOk, IfSome, OnErr, OnOk};
+ghost use Rattle.moos_play.specs.Plays.{AddsAt, clients_in, GoesOnWith, helm_in, history_in, left_in, next_stamp, script_played, StaysSeated};
 ghost use Rattle.moos_simulate.specs.Sailing.{HasVoyage, IsRoundBeside, IsSailedOut, IsSimulating, mgr_number, pid_number};
 ghost use Rattle.moos_simulate.specs.Simulated.{IsSimulatedSoFar};
 ghost use Rattle.moos_simulate.specs.Turns.{IsAnswering, StaysBetween};
+ghost use Rattle.script_reader.specs.declared.script.Order.TheVariants.{Stamp};
 
 use crate::law::sailing_law;
 use crate::vehicle::{Vehicle, watch_contacts};
@@ -16,8 +17,8 @@ use std::thread::Threads;
 
 impl Vehicle {
     /// Plays the next round, and has the vehicle's clients answer the helm's tick, if there is one in it. None if nothing is left.
-    /// After want of memory the history is that of a simulated vehicle still, as far as it goes. There are 1 to 16 workers for what
-    /// the helm solves.
+    /// After want of memory the history is that of a simulated vehicle still, as far as it goes, and what was added has the stamp of
+    /// the round. There are 1 to 16 workers for what the helm solves.
     pub fn round<R: Threads + Wait + Sync, G: Gate>(
         &mut self,
         rt: &R,
@@ -32,6 +33,7 @@ impl Vehicle {
         ensures same { GoesOnWith play.old play.new }
         ensures simulating { OnOk result (IsSimulating self.new play.new) }
         ensures so_far { OnErr result (IsSimulatedSoFar (script_played play.new) (helm_in play.new) self.old.gear (clients_in play.new) (history_in play.new)) }
+        ensures stamped { OnErr result (AddsAt Stamp (next_stamp play.old) (length (clients_in play.old)) (history_in play.old) (history_in play.new)) }
         ensures gear { self.new.gear ≡ self.old.gear }
         ensures round { IfOk result (λ round. IfSome round (IsRoundBeside play.old play.new)) }
         ensures less { IfOk result (λ round. IfSome round (λ _. left_in play.new < left_in play.old)) }
@@ -70,6 +72,7 @@ impl Vehicle {
     ) -> Result<(), NoMemory>
         requires { IsAnswering self.old play.old stamp (pid_number (script_played play.old)) }
         ensures goes_on { StaysBetween play.old play.new }
+        ensures added { AddsAt Stamp stamp (length (clients_in play.old)) (history_in play.old) (history_in play.new) }
         ensures gear { self.new.gear ≡ self.old.gear }
         ensures simulating { OnOk result (IsSimulating self.new play.new) }
         ensures so_far { OnErr result (IsSimulatedSoFar (script_played play.new) (helm_in play.new) self.old.gear (clients_in play.new) (history_in play.new)) }
@@ -90,6 +93,7 @@ impl Vehicle {
     ) -> Result<(), NoMemory>
         requires { IsAnswering self.old play.old stamp (mgr_number (script_played play.old)) }
         ensures goes_on { StaysBetween play.old play.new }
+        ensures added { AddsAt Stamp stamp (length (clients_in play.old)) (history_in play.old) (history_in play.new) }
         ensures gear { self.new.gear ≡ self.old.gear }
         ensures simulating { OnOk result (IsSimulating self.new play.new) }
         ensures so_far { OnErr result (IsSimulatedSoFar (script_played play.new) (helm_in play.new) self.old.gear (clients_in play.new) (history_in play.new)) }

@@ -104,6 +104,7 @@ pub fn tell_part<R: Wait, K: Sink>(
 /// Tells how a play ends.
 pub fn tell_end<R: Wait, K: Sink>(rt: &R, play: &mut Play, out: &mut K) -> Result<(), Failed>
     requires { IsSeated play.old }
+    ensures same { play.new ≡ play.old }
     ensures ok { OnOk result (Took (K.taken out.old) (K.taken out.new) (end_text (history_in play.old))) }
     ensures front { OnErr result (TookFront (K.taken out.old) (K.taken out.new) (end_text (history_in play.old))) }
     ensures later { FaresOn (K.faults out.old) (K.faults out.new) }

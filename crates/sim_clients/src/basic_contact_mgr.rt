@@ -1,5 +1,5 @@
 // The client pBasicContactMgr, which tells of contacts that come near.
-ghost use Rattle.std.specs.Prelude.{◌≡◌, ◌++◌, ◌∷◌, [], IfOk, List, OnOk};
+ghost use Rattle.std.specs.Prelude.{◌≡◌, ◌++◌, ◌∷◌, [], IfOk, List, OnErr, OnOk};
 ghost use Rattle.contact_avoid.specs.declared.ranges.Ranges.{Ranges};
 ghost use Rattle.moos_post.specs.declared.value.Pair.{Pair};
 ghost use Rattle.sim_clients.specs.Clients.{contact_mgr_regs, contacts_by};
@@ -38,12 +38,13 @@ impl BasicContactMgr {
         Ok(regs)
     }
 
-    /// One turn: it hears a mail, and gives what it posts of its contacts.
+    /// One turn: it hears a mail, and gives what it posts of its contacts. If no memory is left it is as it was.
     pub fn turn(&mut self, alloc: Global, mail: &Mail) -> Result<Batch, NoMemory>
         ensures after { (ranges : Ranges) (mails : List (List Pair)) → IsMgrAfter ranges mails self.old
             → OnOk result (IsMgrAfter ranges (mails ++ pairs_in_mail mail.now ∷ []) self.new) }
         ensures said { (ranges : Ranges) (mails : List (List Pair)) → IsMgrAfter ranges mails self.old
             → IfOk result (λ batch. batch ≡ contacts_by ranges (mails ++ pairs_in_mail mail.now ∷ [])) }
+        ensures same { OnErr result (self.new ≡ self.old) }
     {
         let batch = self.manager.turn(alloc, mail)?;
         Ok(batch)

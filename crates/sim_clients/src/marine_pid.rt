@@ -1,4 +1,4 @@
-// The client pMarinePID, which turns what the helm wants into a rudder, a thrust and an elevator.
+// The client pMarinePID, which turns what the helm wants into a rudder and a thrust.
 ghost use Rattle.std.specs.Prelude.{◌≡◌, ◌++◌, ◌∷◌, [], codes, IfOk, List};
 ghost use Rattle.moos_post.specs.declared.value.Pair.{Pair};
 ghost use Rattle.moos_post.specs.Words.{IsMilli};

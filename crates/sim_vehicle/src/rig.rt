@@ -1,4 +1,4 @@
-// The controller: from what is wanted to rudder, thrust and elevator.
+// The controller: from what is wanted to rudder and thrust.
 ghost use Rattle.std.specs.Prelude.{◌≡◌, pos, neg_ℤ, ◌+ℤ◌, ◌-ℤ◌, ◌*ℤ◌, ◌^◌, int_div, IfSome};
 ghost use Rattle.moos_post.specs.Words.{IsMilli};
 ghost use Rattle.sim_vehicle.specs.Steering.{drive_of, fresh_rig, heading_error, Lies, limited, rig_after, signed_angle, thrust_of};

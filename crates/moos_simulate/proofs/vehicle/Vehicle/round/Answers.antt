@@ -1,11 +1,13 @@
 -- A round of the play, and the answers to its tick.
-use Rattle.std.proofs.Common.{◌≡◌, ◌<◌, ◌∙◌, arith, subst, sym}
+use Rattle.std.proofs.Common.{◌≡◌, ◌<◌, arith, length, subst, sym}
 use Rattle.std.specs.Prelude.{IfNone, IfSome}
-use Rattle.moos_play.specs.Plays.{clients_in, HasTurn, helm_in, history_in, IsPlayedOut, IsRound, left_in, order_played, script_played}
+use Rattle.moos_play.specs.Plays.{AddsAt, clients_in, HasTurn, helm_in, history_in, IsPlayedOut, IsRound, left_in, next_stamp, order_played, script_played}
+use Rattle.moos_simulate.proofs.Adding.{adds_part, adds_with, round_ticked, round_unticked}
 use Rattle.moos_simulate.proofs.Going.{always_err, goes_on_twice, stays_seated_twice}
 use Rattle.moos_simulate.proofs.Played.{answering_now, cut_off, sailed_out, sailing_on}
 use Rattle.moos_simulate.specs.Sailing.{IsSailedOut, IsSimulating}
 use Rattle.moos_simulate.specs.Simulated.{IsSimulatedSoFar}
+use Rattle.script_reader.specs.declared.script.Order.TheVariants.{Stamp}
 use Rattle.moos_simulate.proofs.vehicle.Vehicle.round.Goals as goal
 
 pub returns-in_err-round-clause-so_far : goal.returns-in_err-round-clause-so_far
@@ -70,10 +72,37 @@ returns-in_err-answer-clause-same g c = goes_on_twice c.args.play.now c.round.ne
 
 pub returns-then-len-eq0-clause-round : goal.returns-then-len-eq0-clause-round
 returns-then-len-eq0-clause-round g c =
-    let made = subst (λ round. IfSome round (IsRound c.args.play.now c.round.new.self)) c.in-Some.is c.in_ok-round.ensures.round in
-    record { from = made.from; iterations = made.iterations }
+    let old = c.args.play.now in
+    let new = c.round.new.self in
+    let so = c.requires.simulating in
+    let made = subst (λ round. IfSome round (IsRound old new)) c.in-Some.is c.in_ok-round.ensures.round in
+    let turn = subst (λ round. IfSome round (HasTurn (order_played old) old new)) c.in-Some.is c.in_ok-round.ensures.turn in
+    round_unticked c.args.self.now so.0 old new so.1.beside c.in_ok-round.ensures.same c.in-Some.round c.in_ok-round.ensures.seated made turn
 
 pub returns-clause-round : goal.returns-clause-round
 returns-clause-round g c =
-    let made = subst (λ round. IfSome round (IsRound c.args.play.now c.round.new.self)) c.in-Some.is c.in_ok-round.ensures.round in
-    record { from = made.from; iterations = c.in_ok-answer.ensures.goes_on.iterations ∙ made.iterations }
+    let old = c.args.play.now in
+    let new = c.round.new.self in
+    let so = c.requires.simulating in
+    let made = subst (λ round. IfSome round (IsRound old new)) c.in-Some.is c.in_ok-round.ensures.round in
+    let turn = subst (λ round. IfSome round (HasTurn (order_played old) old new)) c.in-Some.is c.in_ok-round.ensures.turn in
+    round_ticked c.args.self.now so.0 old new so.1.beside c.in_ok-round.ensures.same c.in-Some.round c.in_ok-round.ensures.seated made turn
+    (λ none. absurd (omega (arith, none, c.if-len-eq0.false, c.len.ensures))) c.answer.new.play c.in_ok-answer.ensures.goes_on c.in_ok-answer.ensures.added
+
+pub returns-in_err-round-clause-stamped : goal.returns-in_err-round-clause-stamped
+returns-in_err-round-clause-stamped g c =
+    let old = c.args.play.now in
+    let new = c.round.new.self in
+    let so = c.requires.simulating in
+    always_err c.from_residual.result (AddsAt Stamp (next_stamp old) (length (clients_in old)) (history_in old) (history_in new))
+    (adds_part c.args.self.now so.0 old new so.1.beside c.in_err-round.ensures.same c.in_err-round.ensures.stamped)
+
+pub returns-in_err-answer-clause-stamped : goal.returns-in_err-answer-clause-stamped
+returns-in_err-answer-clause-stamped g c =
+    let old = c.args.play.now in
+    let new = c.round.new.self in
+    let last = c.answer.new.play in
+    let so = c.requires.simulating in
+    let made = subst (λ round. IfSome round (IsRound old new)) c.in-Some.is c.in_ok-round.ensures.round in
+    always_err c.from_residual-in_err-answer.result (AddsAt Stamp (next_stamp old) (length (clients_in old)) (history_in old) (history_in last))
+    (adds_with c.args.self.now so.0 old new so.1.beside c.in_ok-round.ensures.same c.in-Some.round c.in_ok-round.ensures.seated made last c.in_err-answer.ensures.added)
