@@ -44,10 +44,13 @@ Y = \"3\"
 MODE = surveying and mode != Surveying
 MODE = URVEYING or MODE = ACTIVE:SURVEY";
 
-// The first one is empty.
+// The first one is empty. The others have no end of a parenthesis or a text, no name or text where one must be, or no operator.
 const REFUSED: &str = "
 (X = abc
 or = 3
+= 3
+\"abc\" = X
+X => 1
 X = \"abc";
 
 // The same comes of each row.

@@ -18,20 +18,24 @@ fn letter(rt: &impl Abort, alloc: Global, var: &str, value: Value) -> Letter {
     Letter { number: 0, post }
 }
 
-// A mail of the own position, which is 0, and of reports.
+// A mail of reports, before which the first one has the own position, which is 0, and a number that is no report.
 fn mail(rt: &impl Abort, alloc: Global, is_first: bool, reports: &[&str]) -> Mail {
     let mut mail = Mail::new(alloc);
     if is_first {
-        for var in ["NAV_X", "NAV_Y"] {
+        for var in ["NAV_X", "NAV_Y", "NODE_REPORT"] {
             let letter = letter(rt, alloc, var, number(rt, 0));
             mail.add(letter).expect(rt, "memory");
         }
     }
     for report in reports {
-        let letter = letter(rt, alloc, "NODE_REPORT", text(rt, alloc, report));
-        mail.add(letter).expect(rt, "memory");
+        add_report(rt, alloc, &mut mail, report);
     }
     mail
+}
+
+fn add_report(rt: &impl Abort, alloc: Global, mail: &mut Mail, report: &str) {
+    let letter = letter(rt, alloc, "NODE_REPORT", text(rt, alloc, report));
+    mail.add(letter).expect(rt, "memory");
 }
 
 // A batch as text: each pair as VAR="text", and a blank behind it.
@@ -52,17 +56,26 @@ fn shown(rt: &impl Abort, alloc: Global, batch: &Batch) -> Vec<u8> {
 // What is reported at each turn, and what the turn posts.
 type Turn = (&'static [&'static str], &'static [u8]);
 
-fn turns(rt: &impl Abort, alloc: Global, rows: &[Turn]) {
+// A manager that knows nothing yet, with the usual ranges.
+fn manager(alloc: Global) -> Manager {
     let ranges = Ranges {
         alert: 50_000,
         clear: 60_000,
     };
-    let mut manager = Manager::make(alloc, ranges);
+    Manager::make(alloc, ranges)
+}
+
+fn posts(rt: &impl Abort, alloc: Global, manager: &mut Manager, mail: &Mail, wanted: &[u8]) {
+    let batch = manager.turn(alloc, mail).expect(rt, "memory");
+    assert_eq!(rt; shown(rt, alloc, &batch).as_slice(), wanted);
+}
+
+fn turns(rt: &impl Abort, alloc: Global, rows: &[Turn]) {
+    let mut manager = manager(alloc);
     let mut is_first = true;
     for (reports, wanted) in rows {
         let mail = mail(rt, alloc, is_first, *reports);
-        let batch = manager.turn(alloc, &mail).expect(rt, "memory");
-        assert_eq!(rt; shown(rt, alloc, &batch).as_slice(), *wanted, "{reports:?}");
+        posts(rt, alloc, &mut manager, &mail, *wanted);
         is_first = false;
     }
 }
@@ -109,6 +122,34 @@ const TWO: &[Turn] = &[
 fn contacts_cross(rt: HostRuntime) {
     turns(&rt, rt.alloc(), FIVE);
     turns(&rt, rt.alloc(), TWO);
+}
+
+// The first reports of so many contacts, which are far away.
+fn far_away(rt: &impl Abort, alloc: Global, contacts: u32) -> Mail {
+    let mut mail = mail(rt, alloc, true, &[]);
+    for number in 1..=contacts {
+        let report = format!(in alloc; "NAME=c{number},X=70,Y=0,SPD=0,HDG=0").expect(rt, "memory");
+        add_report(rt, alloc, &mut mail, report.as_str());
+    }
+    mail
+}
+
+// The last two of 33 contacts come near, of whom the last one isn't known.
+const LAST: &[&str] = &[
+    "NAME=c33,X=10,Y=0,SPD=0,HDG=0",
+    "NAME=c32,X=10,Y=0,SPD=0,HDG=0",
+];
+
+const KNOWN: &[u8] =
+    b"CONTACT_ALERT=\"c32\" CONTACT_INFO=\"name=avd_c32 # contact=c32 # contact_x=10 # contact_y=0 # contact_speed=0 # contact_heading=0\" ";
+
+#[test]
+fn most_contacts(rt: HostRuntime) {
+    let mut manager = manager(rt.alloc());
+    let reports = far_away(&rt, rt.alloc(), 33);
+    posts(&rt, rt.alloc(), &mut manager, &reports, b"");
+    let reports = mail(&rt, rt.alloc(), false, LAST);
+    posts(&rt, rt.alloc(), &mut manager, &reports, KNOWN);
 }
 
 // The own ship at 0 and a contact 20 m to the east that lies still: a speed, a course, and their utility.

@@ -15,6 +15,55 @@ fn empty_lists_are_entries(rt: HostRuntime) {
     assert!(rt; db.entries() == 2 && db.posts() == 0);
 }
 
+// Appends each number from the first to before the last, with what is before it and behind it.
+fn append_each(
+    rt: &impl Abort,
+    alloc: Global,
+    text: &mut String,
+    before: &str,
+    first: u32,
+    last: u32,
+    behind: &str,
+) {
+    for number in first..last {
+        let piece = format!(in alloc; "{before}{number}{behind}").expect(rt, "memory");
+        text.push_str(piece.as_str()).expect(rt, "memory");
+    }
+}
+
+// The first client registers for 256 variables by two calls, and the second posts 1,001 variables, each by a call, ten times over.
+fn many_calls(rt: &impl Abort, alloc: Global) -> String {
+    let mut text = String::new(alloc);
+    for (first, last) in [(0, 128), (128, 256)] {
+        text.push_str("0 0 register").expect(rt, "memory");
+        append_each(rt, alloc, &mut text, " V", first, last, " 0 *");
+        text.push_str("\n").expect(rt, "memory");
+    }
+    for _ in 0..10 {
+        append_each(rt, alloc, &mut text, "1 1 post V", 0, 1_001, "\n");
+    }
+    text
+}
+
+// Ten letters of each of the 256 variables wait, and the last one is in the tenth time, behind nine whole ones.
+fn many_letters_wait(rt: &impl Abort, alloc: Global, db: &mut Db)
+    requires { 0 < length db.old.names }
+{
+    let mail = db.fetch(alloc, 0, 2).expect(rt, "memory");
+    assert!(rt; mail.len() == 2_560);
+    assert!(rt; mail.get(2_559).number == 9_264);
+}
+
+// There may be that many calls, registrations and letters of a client, and variables.
+#[test]
+fn many_of_each(rt: HostRuntime) {
+    let calls = many_calls(&rt, rt.alloc());
+    let mut db = played(&rt, rt.alloc(), "a b", calls.as_str());
+    assert!(rt; db.entries() == 10_012 && db.posts() == 10_010);
+    assert!(rt; db.clients() == 2);
+    many_letters_wait(&rt, rt.alloc(), &mut db);
+}
+
 // A registration of the second client, a batch of the first, and a post of the second.
 const BUSY: &str = "0 1 register X 0 *
 1000 0 post Y X

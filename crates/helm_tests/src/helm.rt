@@ -180,6 +180,49 @@ fn without_modes(rt: HostRuntime) {
     check(&rt, rt.alloc(), b"", WITHOUT_MODES);
 }
 
+// What the names of sixteen modes begin with, and the 63 bytes that follow in each.
+const LETTERS: &[&[u8]] = &[
+    b"A", b"B", b"C", b"D", b"E", b"F", b"G", b"H", b"I", b"J", b"K", b"L", b"M", b"N", b"O", b"P",
+];
+
+const TAIL: &[u8] = b"23456789_123456789_123456789_123456789_123456789_123456789_1234";
+
+// A file of these modes, each under the one before it, and the whole path.
+fn deepest(rt: &impl Abort, alloc: Global) -> (Vec<u8>, Vec<u8>) {
+    let mut file = Vec::new(alloc);
+    let mut path = Vec::new(alloc);
+    for letter in LETTERS {
+        append(rt, &mut file, &[b"set MODE = ", *letter, TAIL, b" {\n"]);
+        if !path.is_empty() {
+            append(rt, &mut file, &[b"MODE = ", path.as_slice(), b"\n"]);
+            append(rt, &mut path, &[b":"]);
+        }
+        append(rt, &mut file, &[b"}\n"]);
+        append(rt, &mut path, &[*letter, TAIL]);
+    }
+    (file, path)
+}
+
+// One tick of a helm whose mode is this path.
+fn first_tick(rt: &impl Abort, alloc: Global, path: &[u8]) -> Vec<u8> {
+    let mut ticks = Vec::new(alloc);
+    append(rt, &mut ticks, &[b"0\n0 PARK ", path]);
+    append(rt, &mut ticks, &[b": IVPHELM_STATE=<PARK> MODE=<", path]);
+    let rest = b"> DESIRED_SPEED=0 IVPHELM_ALLSTOP=<ManualOverride>".as_slice();
+    append(rt, &mut ticks, &[rest]);
+    ticks
+}
+
+// Sixteen names of 64 bytes and fifteen colons.
+#[test]
+fn longest_mode(rt: HostRuntime) {
+    let (file, path) = deepest(&rt, rt.alloc());
+    assert_eq!(rt; path.len(), 1_039);
+    let told = first_tick(&rt, rt.alloc(), path.as_slice());
+    let ticks = str::from_utf8(told.as_slice()).expect(&rt, "a text");
+    check(&rt, rt.alloc(), file.as_slice(), ticks);
+}
+
 const TIMERS: &[u8] =
     b"Behavior = BHV_Timer {\n  name = t\n  condition = DEPLOY = true\n  duration = 0.5\n  runflag = A=1\n  endflag = B=1\n}\nBehavior = BHV_Timer {\n  name = u\n  condition = DEPLOY = true\n  duration = 0.5\n  perpetual = true\n  runflag = C=1\n  idleflag = D=1\n}\n";
 
@@ -228,11 +271,12 @@ fn spawned(rt: HostRuntime) {
 const STEERED: &[u8] =
     b"Behavior = BHV_ConstantHeading {\n  name = h\n  heading = 90\n  updates = H_UP\n}\nBehavior = BHV_ConstantSpeed {\n  name = s\n  speed = 2\n  inactiveflag = N=1\n}\n";
 
-// A heading and a speed are decided on: then the heading is another, while parked none is, and at last it counts no more.
+// A heading and a speed are decided on: then the heading is another, by the last of three letters, since a number is no update and 400
+// no heading; while parked none is, and at last it counts no more.
 const DECIDED: &str = "0 MOOS_MANUAL_OVERRIDE=false
 0 DRIVE : Active Active IVPHELM_STATE=<DRIVE> DESIRED_HEADING=90 DESIRED_SPEED=2 IVPHELM_ALLSTOP=<clear>
 
-250 H_UP=heading=400 H_UP=heading=180
+250 H_UP=1 H_UP=heading=400 H_UP=heading=180
 0.25 DRIVE : Active Active DESIRED_HEADING=180 DESIRED_SPEED=2
 
 500 MOOS_MANUAL_OVERRIDE=true H_UP=pwt=0

@@ -1,5 +1,5 @@
 // Runs with behaviours: what becomes of them, what they decide together, and what the helm posts of it.
-use crate::files::{ALPHA, COURSE_MISSION, DEPLOYING_SCRIPT};
+use crate::files::{ALPHA, COURSE_MISSION, DEPLOYING_SCRIPT, append};
 use crate::runs::{ends_so, run_beside};
 use moos_jobs::Status;
 use std::alloc::Global;
@@ -272,6 +272,38 @@ fn behaviors_live_and_decide(rt: HostRuntime) {
     for (files, parts) in PLAYED {
         comes_to(&rt, rt.alloc(), *files, *parts);
     }
+}
+
+// So many timers, and a template.
+fn timers_and_a_template(rt: &impl Abort, alloc: Global, timers: u32) -> String {
+    let mut text = String::new(alloc);
+    for number in 0..timers {
+        let name = format!(in alloc; "name = t{number}\n").expect(rt, "memory");
+        append(
+            rt,
+            &mut text,
+            &["Behavior = BHV_Timer {\n", name.as_str(), "}\n"],
+        );
+    }
+    let template = "Behavior = BHV_Timer {\nname = tmpl\ntemplating = spawn\nupdates = T_UP\n}\n";
+    append(rt, &mut text, &[template]);
+    text
+}
+
+const TWO_LETTERS: &str =
+    "0 nav post MOOS_MANUAL_OVERRIDE=false # T_UP=\"name=x\" # T_UP=\"name=y\"\n0 until\n";
+
+// With the first one there are 64 behaviours, the template among them.
+const FILLED: &[&str] = &[
+    "%% iteration 0 0 DRIVE\n%% update tmpl spawned x\n%% update tmpl refused\n%% behavior t0 running\n",
+    "%% behavior t61 running\n%% behavior x running\n%% none\n%% end 4 6\n",
+];
+
+#[test]
+fn a_full_list_takes_no_other(rt: HostRuntime) {
+    let behaviors = timers_and_a_template(&rt, rt.alloc(), 62);
+    let files = [TWO_LETTERS, COURSE_MISSION, behaviors.as_str()];
+    comes_to(&rt, rt.alloc(), files, FILLED);
 }
 
 // As it is in a report, with the marks before its lines.

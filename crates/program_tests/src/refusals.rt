@@ -114,6 +114,11 @@ fn a_client_too_many_is_refused(rt: HostRuntime) {
     let status = refused(FileKind::Script, 65, Cause::S8(Limit::Clients));
     let line = ["play", "f.txt"];
     ends_so(&rt, rt.alloc(), &line, text.as_str(), status, "");
+    // One less may be there beside a helm.
+    let text = fetches(&rt, rt.alloc(), 64);
+    let files = [text.as_str(), COURSE_MISSION, MODES];
+    let (status, _) = run_beside(&rt, rt.alloc(), &["play", "s.txt", "m.moos"], files);
+    assert_eq!(rt; status, Status::Done);
 }
 
 #[test]

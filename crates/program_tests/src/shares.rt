@@ -1,4 +1,5 @@
 // Runs of two scripts with a bridge between their communities: what each writes, worked by hand, and how the others end.
+use crate::files::append;
 use crate::runs::{ends_so, run_beside};
 use moos_jobs::{FileKind, Refusal, Status};
 use moos_text::Cause;
@@ -50,7 +51,42 @@ const REPORTS: &str = "%% moosdb play 1\n%% client 0 a\n%% client 1 pShare\n\
     %% entry 3 2 b fetch\n%% mail 0 0 A_X pShare 1\n%% mail 1 1 NAV_Y pShare 2\n\
     %% entry 4 2 pShare post 2 0\n%% end 5 2\n";
 
-// Without `--race` these files come to one output. In a race the number of entries and posts in either history is the same.
+// What the bridge posts, in its order.
+const CARRIED: &str = "A_X 1\nNAV_Y 2\n";
+
+// Of each post of the bridge that these reports list its variable and its value.
+fn carried_in(rt: &impl Abort, alloc: Global, reports: &str) -> String {
+    let mut carried = String::new(alloc);
+    for line in reports.lines() {
+        let mut words = line.split_whitespace();
+        let var = words.nth(1).unwrap_or("");
+        if words.next() == Some("pShare") {
+            append(
+                rt,
+                &mut carried,
+                &[var, " ", words.next().unwrap_or(""), "\n"],
+            );
+        }
+    }
+    carried
+}
+
+// In a race the bridge posts this.
+fn race_carries<R: Threads + Wait + Sync + Abort>(
+    rt: &R,
+    alloc: Global,
+    files: [&str; 3],
+    carried: &str,
+) {
+    let line = ["share", "s.txt", "m.moos", "alpha.bhv", "--race"];
+    let (status, out) = run_beside(rt, alloc, &line, files);
+    assert_eq!(rt; status, Status::Done);
+    let reports = str::from_utf8(out.bytes()).expect(rt, "a text");
+    assert_eq!(rt; carried_in(rt, alloc, reports).as_str(), carried);
+}
+
+// Without `--race` these files come to one output. In a race either history has as many entries and posts, and the same is carried in
+// the same order, though not at the same stamps.
 #[test]
 fn posts_are_carried(rt: HostRuntime) {
     let files = [FIRST, SECOND, BRIDGE];
@@ -60,6 +96,7 @@ fn posts_are_carried(rt: HostRuntime) {
         "%% end 5 2\n",
     ];
     run_share(&rt, rt.alloc(), files, &["--race"], Status::Done, &ends);
+    race_carries(&rt, rt.alloc(), files, CARRIED);
 }
 
 // A script without clients beside one with them, and a bridge without rules, whose posts are empty.

@@ -37,6 +37,21 @@ fn simulated_by<R: Threads + Wait + Sync + Abort>(
     vehicle: &str,
     contacts: &str,
 ) -> (Status, MemSink) {
+    let mut out = MemSink::make(alloc, 1_000_000, 10_000).expect(rt, "memory");
+    let status = simulate_into(rt, alloc, line, script, vehicle, contacts, &mut out);
+    (status, out)
+}
+
+// The same into this sink.
+fn simulate_into<R: Threads + Wait + Sync + Abort>(
+    rt: &R,
+    alloc: Global,
+    line: &[&str],
+    script: &str,
+    vehicle: &str,
+    contacts: &str,
+    out: &mut MemSink,
+) -> Status {
     let words = command_line(rt, alloc, line);
     let mut folder = folder_beside(rt, alloc, [script, ALPHA[1], ALPHA[2]]);
     assert!(rt; vehicle.len() < 10_000 && contacts.len() < 10_000);
@@ -44,12 +59,10 @@ fn simulated_by<R: Threads + Wait + Sync + Abort>(
     added.expect(rt, "memory");
     let added = folder.add(alloc, b"c.txt", contacts.as_bytes());
     added.expect(rt, "memory");
-    let mut out = MemSink::make(alloc, 1_000_000, 10_000).expect(rt, "memory");
-    let status = run(rt, alloc, &words, &mut folder, &mut out, &NoGate);
-    (status, out)
+    run(rt, alloc, &words, &mut folder, out, &NoGate)
 }
 
-// The same by so many workers, and without contacts.
+// Simulates by so many workers, and without contacts.
 fn simulated<R: Threads + Wait + Sync + Abort>(
     rt: &R,
     alloc: Global,
@@ -197,5 +210,40 @@ fn what_no_vehicle_sails_is_refused(rt: HostRuntime) {
         };
         assert_eq!(rt; status, Status::Refused(refusal));
         assert_eq!(rt; out.bytes().len(), 0);
+    }
+}
+
+// Words that name a file which isn't there.
+const ABSENT: &[&[&str]] = &[
+    &["simulate", "s.txt", "m.moos", "absent.txt"],
+    &["simulate", "s.txt", "m.moos", "v.txt", "absent.txt"],
+];
+
+#[test]
+fn an_absent_vehicle_or_contacts_file_is_a_load_fault(rt: HostRuntime) {
+    for line in ABSENT {
+        let (status, out) = simulated_by(&rt, rt.alloc(), *line, SECOND, "", "");
+        assert_eq!(rt; status, Status::LoadFault, "{line:?}");
+        assert_eq!(rt; out.bytes().len(), 0);
+    }
+}
+
+// If the put with this number fails, that is told, and a front of the whole report was written.
+fn stops_at<R: Threads + Wait + Sync + Abort>(rt: &R, alloc: Global, nth: u64, whole: &[u8]) {
+    let mut out = MemSink::make(alloc, 1_000_000, 10_000).expect(rt, "memory");
+    out.fail_at(nth).expect(rt, "memory");
+    let line = ["simulate", "s.txt", "m.moos", "v.txt"];
+    let status = simulate_into(rt, alloc, &line, SECOND, "", "", &mut out);
+    assert_eq!(rt; status, Status::WriteFault, "{nth}");
+    assert!(rt; out.bytes().len() < whole.len());
+    assert!(rt; whole.starts_with(out.bytes()), "{nth}");
+}
+
+// There are seven puts at least: that of the opening, those of five rounds, and the last one.
+#[test]
+fn a_failed_write_of_a_simulation_is_told(rt: HostRuntime) {
+    let (_, out) = simulated(&rt, rt.alloc(), "1", SECOND, "");
+    for nth in 0..7 {
+        stops_at(&rt, rt.alloc(), nth, out.bytes());
     }
 }

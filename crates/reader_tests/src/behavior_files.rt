@@ -124,13 +124,15 @@ fn bad_blocks(rt: HostRuntime) {
 
 const AVOID: &[u8] = b"Behavior = BHV_AvoidCollision {\nname = a\n";
 
-// Distances that are equal, pieces of which the domain of 41 by 41 by 41 places has 9,261, and values that are out of range.
+// Distances that are equal, pieces of which the domain of 41 by 41 by 41 places has 9,261, a contact that is no name, and values that
+// are out of range.
 const BAD_AVOIDS: &[(&[u8], u32, Cause)] = &[
     (b"max_util_cpa_dist = 10\n}", 4, Cause::B6),
     (b"min_util_cpa_dist = 75\n}", 4, Cause::B6),
     (b"piece_size = 2\n}", 4, Cause::B6),
     (b"piece_size = 0", 3, Cause::B6),
     (b"contact = abcdefghijklmnopqrstuvwxyz0123456", 3, Cause::B6),
+    (b"contact = 1b", 3, Cause::B6),
     (b"contact_x = -1000000.001", 3, Cause::B6),
     (b"contact_speed = 100.001", 3, Cause::B6),
     (b"contact_heading = 360.001", 3, Cause::B6),
