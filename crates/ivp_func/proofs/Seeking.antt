@@ -1,5 +1,5 @@
 -- The least piece that meets an area, sought in cells.
-use Rattle.std.proofs.Common.{◌≡◌, ℕ, zero, suc, ◌+◌, ◌-◌, ◌<◌, ◌≤◌, true, false, Option, Some, None, List, [], ◌∷◌, ◌++◌, length, length-append, take, drop, ap, ◌∙◌, sym, subst, inl, inr, arith, IsTrue}
+use Rattle.std.proofs.Common.{◌≡◌, ℕ, zero, suc, ◌+◌, ◌-◌, ◌<◌, ◌≤◌, true, false, Option, Some, None, List, [], ◌∷◌, ◌++◌, length, length-append, take, drop, refl, ap, ◌∙◌, sym, subst, inl, inr, arith, IsTrue}
 use Rattle.std.specs.Prelude.{slice_get, slice_index, IfSome, IfOk, Result, Ok, Err}
 use Rattle.std.specs.List.{slice_range}
 use Rattle.std.specs.Result.{result_ok}
@@ -14,11 +14,13 @@ use Rattle.ivp_domain.specs.declared.boxes.Point.{Point}
 use Rattle.ivp_domain.specs.Boxes.{has_point}
 use Rattle.ivp_func.specs.declared.grid.Cell.{Cell}
 use Rattle.ivp_func.specs.declared.piece.Piece.{Piece}
-use Rattle.ivp_func.specs.Cells.{IsCell, IsLeast, IsMeeting, IsRising, NoneLess, NoneLessIn}
+use Rattle.ivp_func.specs.Cells.{IsCell, IsLeast, IsMeeting, IsRising, NoneLess, NoneLessIn, lies_in_piece}
+use Rattle.ivp_func.specs.Functions.{IsPartition}
 use Rattle.ivp_func.specs.Grids.{cell_at, cell_box, meeting, meets, share}
 use Rattle.ivp_func.specs.Pieces.{piece_has, is_box_of}
+use Rattle.ivp_func.proofs.Counting.{two_hold}
 use Rattle.ivp_func.proofs.Cutting.{in_cell}
-use Rattle.ivp_func.proofs.Facts.{area_point}
+use Rattle.ivp_func.proofs.Facts.{area_point, point_in}
 use Rattle.ivp_func.proofs.Meetings.{listed_all, listed_rising, listed_within, meets_from, meets_to, meets_within, share_from}
 
 -- what holds of each element, and of one more at the end
@@ -116,6 +118,22 @@ none_left pieces area from next past least n above =
       | inl met ↦ absurd (omega (arith, meets_within pieces area n met, least n above met))
       | inr apart ↦ apart
     ]
+
+-- in a partition no piece behind one in which an area lies meets it
+pub none_behind : (axes : List Axis) (pieces : List Piece) (area : BoxN) (number other : ℕ) → IsPartition axes pieces → is_box_of axes area ≡ true → lies_in_piece area (slice_get pieces number) ≡ true → number < other → meets pieces area other ≡ false
+none_behind axes pieces area number other partition fits lies behind = by (slice_get pieces number) refl lies
+  where
+    by : (o : Option Piece) → slice_get pieces number ≡ o → lies_in_piece area o ≡ true → meets pieces area other ≡ false
+    by None e inside = absurd (cc)
+    by (Some piece) e inside =
+        elim (cases_Bool (meets pieces area other)) [
+          | inl met ↦
+              let at = meets_to pieces area other met in
+              let one = partition at.point (area_point axes area at.point fits at.inside) in
+              let several = two_hold pieces number other piece at.piece at.point behind e at.stands (point_in area piece.area at.point inside at.inside) at.held in
+              absurd (omega (arith, one, several))
+          | inr none ↦ none
+        ]
 
 -- what holds of a value that is lent
 pub lent : {G : Type 0} (P : G → Type 0) (r : Option (Bor G)) (o : Option G) → option_copied r ≡ o → IfSome o P → IfSome r (λ (b : Bor G). P b.now)

@@ -1,5 +1,5 @@
 -- What a grid keeps, and what is known of the least piece that meets an area while it is sought.
-use Rattle.std.specs.Prelude.{◌≡◌, ℕ, ◌<◌, ◌≤◌, Bool, ◌&&◌, nat_le, IsTrue, Some, List, length, slice_get, slice_index}
+use Rattle.std.specs.Prelude.{◌≡◌, ℕ, ◌<◌, ◌≤◌, Bool, ◌&&◌, nat_le, false, IsTrue, Option, Some, None, List, length, slice_get, slice_index}
 use Rattle.std.specs.List.{slice_range}
 use Rattle.ivp_domain.specs.declared.axis.Axis.{Axis}
 use Rattle.ivp_domain.specs.declared.boxes.BoxN.{BoxN}
@@ -26,7 +26,7 @@ pub record HasCells (pieces : List Piece) (grid : Grid) : Type 0 where
   pub count : length grid.cells.items ≡ cells_of grid.cuts
   pub each : (number : ℕ) (cell : Cell) → slice_get grid.cells.items number ≡ Some cell → IsCell pieces grid.numbers.items (cell_box grid.cuts number) cell
 
--- its axes are those of the domain, with the places that are kept
+-- a grid's axes are those of the domain, with the places that are kept
 pub record IsGrid (axes : List Axis) (pieces : List Piece) (grid : Grid) : Type 0 where
   pub domain : IsTrue (is_domain axes)
   pub cuts : grid.cuts ≡ kept_axes axes pieces
@@ -48,6 +48,11 @@ lies_on axis area around =
 -- each point of the area is one of the other box
 abbrev pub lies_in : BoxN → BoxN → Bool
 lies_in area around = lies_on 0 area around && lies_on 1 area around && lies_on 2 area around && lies_on 3 area around
+
+-- each point of the area is one of this piece's box, if there is one
+abbrev pub lies_in_piece : BoxN → Option Piece → Bool
+lies_in_piece area None = false
+lies_in_piece area (Some piece) = lies_in area piece.area
 
 -- what is near some cells are the pieces that share a point with its box
 abbrev pub IsNear : List Piece → Near → Type 0

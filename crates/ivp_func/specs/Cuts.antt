@@ -9,11 +9,11 @@ use Rattle.ivp_func.specs.Grids.{run_on, runs_on}
 abbrev pub axis_to : ℕ → Axis
 axis_to last = record no_axis { points = suc last }
 
--- so many axes, each up to its last place
+-- `count` axes, each up to its last place
 abbrev pub axes_to : ℕ → List ℕ → List Axis
 axes_to count last = take count (map axis_to last)
 
--- so many axes can be cut: past their number the last place is 0, and there are at most 2^28 points
+-- `count` axes can be cut: past their number the last place is 0, and there are at most 2^28 points
 pub record CanBeCut (count : ℕ) (last : List ℕ) : Type 0 where
   pub counted : length (axes_to count last) ≡ count
   pub ends : last ≡ (whole (axes_to count last)).high

@@ -12,7 +12,7 @@ use Rattle.ivp_func.specs.declared.piece.Piece.{Piece}
 abbrev pub share : BoxN → BoxN → Bool
 share a b = is_box (common a b)
 
--- this piece's box shares a point with the area, if there is one
+-- the box of a piece shares a point with the area, if there is a piece
 abbrev pub meets_piece : BoxN → Option Piece → Bool
 meets_piece area None = false
 meets_piece area (Some piece) = share area piece.area
@@ -25,7 +25,7 @@ meets pieces area number = meets_piece area (slice_get pieces number)
 abbrev pub meeting : List Piece → BoxN → List ℕ
 meeting pieces area = filter (meets pieces area) (numbers_from 0 (length pieces))
 
--- how many parts of so many places there are from place 0 to the last one: the quotient, rounded up
+-- how many parts of `places` places there are from place 0 to the last one: the quotient, rounded up
 abbrev pub parts_to : ℕ → ℕ → ℕ
 parts_to last places = last / places + 1
 
@@ -53,7 +53,7 @@ cells_of axes = runs_on 0 axes * runs_on 1 axes * runs_on 2 axes * runs_on 3 axe
 abbrev pub run_low : ℕ → List Axis → ℕ → ℕ
 run_low axis axes run = run * run_on axis axes
 
--- its last place: the last run ends with the axis
+-- the last place of a run: the last run ends with the axis
 abbrev pub run_high : ℕ → List Axis → ℕ → ℕ
 run_high axis axes run = min (run_low axis axes run + (run_on axis axes - 1)) (last_on axis axes)
 

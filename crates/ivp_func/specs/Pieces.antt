@@ -28,7 +28,7 @@ piece_has point piece = has_point piece.area point
 abbrev pub count_at : List Piece → Point → ℕ
 count_at pieces point = count_by (piece_has point) pieces
 
--- the value of this piece, if there is one
+-- the value of this piece at a point; 0 if there is no piece
 abbrev pub value_in : Option Piece → Point → ℤ
 value_in None point = pos 0
 value_in (Some piece) point = piece_value piece point
@@ -67,6 +67,6 @@ is_flat_past axes axis piece = nat_lt axis (length axes) || (int_le (pos 0) (slo
 abbrev pub is_piece_of : List Axis → Piece → Bool
 is_piece_of axes piece = is_box_of axes piece.area && is_small piece && is_flat_past axes 1 piece && is_flat_past axes 2 piece && is_flat_past axes 3 piece
 
--- each piece may
+-- each of these pieces may be in a function over the domain
 abbrev pub are_pieces_of : List Axis → List Piece → Bool
 are_pieces_of axes pieces = list_all (is_piece_of axes) pieces

@@ -8,7 +8,7 @@ ghost use Rattle.ivp_func.specs.Making.{MadeFunction};
 ghost use Rattle.ivp_func.specs.Pieces.{are_pieces_of, is_box_of, is_piece_of, is_value, value_at};
 
 use crate::cuts::Cuts;
-use crate::grid::{Grid, next_meet};
+use crate::grid::{Grid, lies_in_piece, next_meet};
 use crate::partition::{count, misfit};
 use crate::piece::{Piece, are_same};
 use crate::values::{point_out, top, value_at};
@@ -211,6 +211,10 @@ impl Func {
         ensures none { IfNone result ((other : ℕ) → from ≤ other → meets self.now.pieces area.now other ≡ false) }
     {
         let body = self.body();
+        // The pieces part the domain: if all of the area lies in the one before, no other meets it.
+        if from > 0 && lies_in_piece(area, &body.pieces, from - 1) {
+            return None;
+        }
         next_meet(Some(&body.grid), &body.pieces, area, from)
     }
 

@@ -1,9 +1,9 @@
 // The grid of a function: for each cell of the places that it keeps the pieces that meet it.
-ghost use Rattle.std.specs.Prelude.{◌≡◌, ℕ, ◌+◌, ◌++◌, ◌<◌, ◌≤◌, length, slice_index, IfOk, IfSome, IfNone, IsTrue, false};
+ghost use Rattle.std.specs.Prelude.{◌≡◌, ℕ, ◌+◌, ◌++◌, ◌<◌, ◌≤◌, length, slice_get, slice_index, IfOk, IfSome, IfNone, IsTrue, false};
 ghost use Rattle.std.specs.List.{All, filter, slice_range};
 ghost use Rattle.ivp_domain.specs.declared.boxes.Point.{Point};
 ghost use Rattle.ivp_domain.specs.Boxes.{has_point, numbers_from};
-ghost use Rattle.ivp_func.specs.Cells.{HasArea, HasCells, IsGrid, IsLeast, IsMeeting, IsNear, IsRising, NoneLess, NoneLessIn, lies_in};
+ghost use Rattle.ivp_func.specs.Cells.{HasArea, HasCells, IsGrid, IsLeast, IsMeeting, IsNear, IsRising, NoneLess, NoneLessIn, lies_in, lies_in_piece};
 ghost use Rattle.ivp_func.specs.Grids.{cell_at, cells_of, meets, share};
 ghost use Rattle.ivp_func.specs.Kept.{clipped};
 ghost use Rattle.ivp_func.specs.Pieces.{is_box_of};
@@ -102,6 +102,16 @@ fn lies_in(area: &BoxN, around: &BoxN) -> bool
         && area.high[2] <= around.high[2]
         && around.low[3] <= area.low[3]
         && area.high[3] <= around.high[3]
+}
+
+/// Whether there is a piece of this number, and all points of the area are points of its box.
+pub(crate) fn lies_in_piece(area: &BoxN, pieces: &[Piece], number: u32) -> bool
+    ensures { result ≡ lies_in_piece area.now (slice_get pieces.now number) }
+{
+    match pieces.get(number as usize) {
+        Some(piece) => lies_in(area, &piece.area),
+        None => false,
+    }
 }
 
 /// A box around several cells, and the numbers of the pieces that share a point with it, so that the pieces of each of
@@ -251,6 +261,10 @@ fn first_from(numbers: &[u32], from: u32) -> usize
     ensures below { (place : ℕ) → place < result → slice_index numbers.now place < from }
     ensures rest { (place : ℕ) → result ≤ place → place < length numbers.now → from ≤ slice_index numbers.now place }
 {
+    // The walk over the pieces of an area begins at 0, below which nothing is.
+    if from == 0 {
+        return 0;
+    }
     numbers.partition_point(|number| *number < from)
 }
 
