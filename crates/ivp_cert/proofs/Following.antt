@@ -17,7 +17,7 @@ use Rattle.ivp_cert.specs.declared.stage.ProblemStage.TheVariants.{Axes, Begun, 
 use Rattle.ivp_cert.specs.Decisions.{claim_in, cuts_in, decision_of, with_claim, with_cut}
 use Rattle.ivp_cert.specs.Pieces.{piece_of}
 use Rattle.ivp_cert.specs.Problems.{axes_in, domain_in, nothing_behind, ended_early, finished, functions_in, is_first, problem_in, problem_of, with_domain, with_function, with_piece}
-use Rattle.ivp_cert.specs.SaidLines.{last_of, SaidLine, said_from, said_with}
+use Rattle.ivp_cert.specs.SaidLines.{nothing_more, SaidLine, said_from, said_with}
 use Rattle.ivp_cert.specs.Stages.{after_first, after_word, stage_after, as_now, phase_after, whole_decision, whole_problem}
 use Rattle.ivp_cert.specs.Unfinished.{UnfinishedSum}
 use Rattle.ivp_cert.specs.Words.{line_words}
@@ -39,7 +39,7 @@ behind last next lines (Ended problem) = next problem lines
 abbrev behind_phase : ℕ → List SaidLine → DecisionStage → Result Decision ReadFault
 behind_phase last lines (OfProblem stage) = behind last (claim_in last) lines stage
 behind_phase last lines (OfCuts decision) = cuts_in last decision lines
-behind_phase last lines (Done decision) = last_of decision lines
+behind_phase last lines (Done decision) = nothing_more decision lines
 
 -- a good line is followed by what stands behind it, and a refused one by nothing
 one_line : {X S A : Type 0} (form : X → S) (rest : S → Result A ReadFault) (line : ℕ) (r : Result X Cause) → and_then rest (at_line line (as_now form r)) ≡ and_then (λ x. rest (form x)) (at_line line r)
@@ -100,11 +100,11 @@ stage_line last next lines (Axes axes) line word words is = line_axes last next 
 stage_line last next lines (Functions sum) line word words is = line_functions last next lines sum line words (bytes_eq word (codes "piece")) (bytes_eq word (codes "function")) (bytes_eq word (codes "end"))
 stage_line last next lines (Ended problem) line word words is = absurd is
 
-problem_line : (last : ℕ) (lines : List SaidLine) (stage : ProblemStage) (line : ℕ) (word : List ℕ) (words : List (List ℕ)) → and_then (behind last last_of lines) (after_word line stage word words) ≡ behind last last_of (said line word words ∷ lines) stage
-problem_line last lines Start line word words = stage_line last last_of lines Start line word words tt
-problem_line last lines Begun line word words = stage_line last last_of lines Begun line word words tt
-problem_line last lines (Axes axes) line word words = stage_line last last_of lines (Axes axes) line word words tt
-problem_line last lines (Functions sum) line word words = stage_line last last_of lines (Functions sum) line word words tt
+problem_line : (last : ℕ) (lines : List SaidLine) (stage : ProblemStage) (line : ℕ) (word : List ℕ) (words : List (List ℕ)) → and_then (behind last nothing_more lines) (after_word line stage word words) ≡ behind last nothing_more (said line word words ∷ lines) stage
+problem_line last lines Start line word words = stage_line last nothing_more lines Start line word words tt
+problem_line last lines Begun line word words = stage_line last nothing_more lines Begun line word words tt
+problem_line last lines (Axes axes) line word words = stage_line last nothing_more lines (Axes axes) line word words tt
+problem_line last lines (Functions sum) line word words = stage_line last nothing_more lines (Functions sum) line word words tt
 problem_line last lines (Ended problem) line word words = refl
 
 -- a line of a decision
@@ -115,7 +115,7 @@ line_claim : (last : ℕ) (lines : List SaidLine) (problem : WeightedSum) (line 
 line_claim last lines problem line words true = one_line OfCuts (behind_phase last lines) line (with_claim problem words)
 line_claim last lines problem line words false = refl
 
-line_cuts : (last : ℕ) (lines : List SaidLine) (decision : Decision) (line : ℕ) (words : List (List ℕ)) (cut done : Bool) → and_then (behind_phase last lines) (at_line line (cond cut (as_now OfCuts (with_cut decision words)) (cond done (as_now Done (nothing_behind decision words)) (Err P1)))) ≡ cond cut (and_then (λ more. cuts_in last more lines) (at_line line (with_cut decision words))) (cond done (and_then (λ whole. last_of whole lines) (at_line line (nothing_behind decision words))) (Err (At line P1)))
+line_cuts : (last : ℕ) (lines : List SaidLine) (decision : Decision) (line : ℕ) (words : List (List ℕ)) (cut done : Bool) → and_then (behind_phase last lines) (at_line line (cond cut (as_now OfCuts (with_cut decision words)) (cond done (as_now Done (nothing_behind decision words)) (Err P1)))) ≡ cond cut (and_then (λ more. cuts_in last more lines) (at_line line (with_cut decision words))) (cond done (and_then (λ whole. nothing_more whole lines) (at_line line (nothing_behind decision words))) (Err (At line P1)))
 line_cuts last lines decision line words true done = one_line OfCuts (behind_phase last lines) line (with_cut decision words)
 line_cuts last lines decision line words false true = one_line Done (behind_phase last lines) line (nothing_behind decision words)
 line_cuts last lines decision line words false false = refl
@@ -130,10 +130,10 @@ decision_line last lines (OfCuts decision) line word words = line_cuts last line
 decision_line last lines (Done decision) line word words = refl
 
 -- all lines, by those behind the first
-problem_more : (last : ℕ) (raws : List (List ℕ)) (lines : ℕ) (stage : ProblemStage) (words : List (List ℕ)) → ((next : ProblemStage) → and_then (whole_problem last) (after_lines stage_after (suc lines) next raws) ≡ behind last last_of (said_from (suc lines) raws) next) → and_then (whole_problem last) (and_then (λ next. after_lines stage_after (suc lines) next raws) (stage_after (suc lines) stage words)) ≡ behind last last_of (said_with (suc lines) words (said_from (suc lines) raws)) stage
+problem_more : (last : ℕ) (raws : List (List ℕ)) (lines : ℕ) (stage : ProblemStage) (words : List (List ℕ)) → ((next : ProblemStage) → and_then (whole_problem last) (after_lines stage_after (suc lines) next raws) ≡ behind last nothing_more (said_from (suc lines) raws) next) → and_then (whole_problem last) (and_then (λ next. after_lines stage_after (suc lines) next raws) (stage_after (suc lines) stage words)) ≡ behind last nothing_more (said_with (suc lines) words (said_from (suc lines) raws)) stage
 problem_more last raws lines stage [] others = others stage
 problem_more last raws lines stage (word ∷ words) others =
-    then_each (whole_problem last) (λ next. after_lines stage_after (suc lines) next raws) (behind last last_of (said_from (suc lines) raws)) (after_word (suc lines) stage word words) others
+    then_each (whole_problem last) (λ next. after_lines stage_after (suc lines) next raws) (behind last nothing_more (said_from (suc lines) raws)) (after_word (suc lines) stage word words) others
     ∙ problem_line last (said_from (suc lines) raws) stage (suc lines) word words
 
 decision_more : (last : ℕ) (raws : List (List ℕ)) (lines : ℕ) (phase : DecisionStage) (words : List (List ℕ)) → ((next : DecisionStage) → and_then (whole_decision last) (after_lines phase_after (suc lines) next raws) ≡ behind_phase last (said_from (suc lines) raws) next) → and_then (whole_decision last) (and_then (λ next. after_lines phase_after (suc lines) next raws) (phase_after (suc lines) phase words)) ≡ behind_phase last (said_with (suc lines) words (said_from (suc lines) raws)) phase
@@ -142,7 +142,7 @@ decision_more last raws lines phase (word ∷ words) others =
     then_each (whole_decision last) (λ next. after_lines phase_after (suc lines) next raws) (behind_phase last (said_from (suc lines) raws)) (after_first (suc lines) phase word words) others
     ∙ decision_line last (said_from (suc lines) raws) phase (suc lines) word words
 
-problem_lines : (last : ℕ) (raws : List (List ℕ)) (lines : ℕ) (stage : ProblemStage) → and_then (whole_problem last) (after_lines stage_after lines stage raws) ≡ behind last last_of (said_from lines raws) stage
+problem_lines : (last : ℕ) (raws : List (List ℕ)) (lines : ℕ) (stage : ProblemStage) → and_then (whole_problem last) (after_lines stage_after lines stage raws) ≡ behind last nothing_more (said_from lines raws) stage
 problem_lines last [] lines Start = refl
 problem_lines last [] lines Begun = refl
 problem_lines last [] lines (Axes axes) = refl

@@ -51,7 +51,7 @@ same_domain-self [] = refl
 same_domain-self (axis ∷ axes) = and_from (same_axis axis axis) (same_domain axes axes) (same_axis-self axis) (same_domain-self axes)
 
 -- one more passes too
-one_more : {X : Type 0} (test : X → Bool) (before after : List X) (x : X) → after ≡ before ++ x ∷ [] → list_all test before ≡ true → test x ≡ true → list_all test after ≡ true
+pub one_more : {X : Type 0} (test : X → Bool) (before after : List X) (x : X) → after ≡ before ++ x ∷ [] → list_all test before ≡ true → test x ≡ true → list_all test after ≡ true
 one_more test before after x more all here = ap (list_all test) more ∙ list_all-append test before (x ∷ []) ∙ and_from (list_all test before) (test x && true) all (and_from (test x) true here refl)
 
 pub weights_more : (before after : List Term) (term : Term) → after ≡ before ++ term ∷ [] → have_weights before ≡ true → is_weight term.weight ≡ true → have_weights after ≡ true

@@ -15,18 +15,18 @@ use Rattle.ivp_cert.specs.declared.cert.Line.{Line}
 use Rattle.ivp_cert.specs.declared.claim.Decision.{Decision}
 use Rattle.ivp_cert.specs.declared.claim.Spelled.{Spelled}
 use Rattle.ivp_cert.specs.Problems.{nothing_behind, problem_in}
-use Rattle.ivp_cert.specs.SaidLines.{last_of, SaidLine, said_from}
+use Rattle.ivp_cert.specs.SaidLines.{nothing_more, SaidLine, said_from}
 use Rattle.ivp_cert.specs.Words.{place_of}
 
 -- a sum: a number without a sign, at most 64,000,000,000, in thousandths
 abbrev pub sum_word : List ℕ → Option ℕ
 sum_word word = unsigned_within (64 * 10 ^ 12) word
 
--- these places and this sum
+-- what the words of a claim spell: these places and this sum
 abbrev pub spelled_with : List ℕ → ℕ → Spelled
 spelled_with places sum = record { places = places; sum = sum }
 
--- these places, and what the words spell behind them: the last word is the sum
+-- what words spell behind these places: further places, and in the last word the sum
 abbrev pub spelled : List ℕ → List (List ℕ) → Option Spelled
 spelled places [] = None
 spelled places (word ∷ []) = option_map (spelled_with places) (sum_word word)
@@ -80,7 +80,7 @@ line_from path (word ∷ words) =
     else if nat_lt (length path) 64 then option_and_then (λ number. line_from (path ++ number ∷ []) words) (place_of word)
     else None
 
--- one line more
+-- the decision with one more line of its certificate
 abbrev pub with_line : Decision → Line → Decision
 with_line decision line = record decision { cert = decision.cert ++ line ∷ [] }
 
@@ -88,12 +88,12 @@ with_line decision line = record decision { cert = decision.cert ++ line ∷ [] 
 abbrev pub with_cut : Decision → List (List ℕ) → Result Decision Cause
 with_cut decision words = and_then (λ line. Ok (with_line decision line)) (in_form (line_from [] words))
 
--- in a certificate comes one line more, or `done`, after which no line says anything
+-- in a certificate comes one more line, or `done`, after which no line says anything
 abbrev pub cuts_in : ℕ → Decision → List SaidLine → Result Decision ReadFault
 cuts_in last decision [] = Err (At last P9)
 cuts_in last decision (said ∷ behind) =
     if bytes_eq said.word (codes "cut") then and_then (λ more. cuts_in last more behind) (at_line said.line (with_cut decision said.rest))
-    else if bytes_eq said.word (codes "done") then and_then (λ whole. last_of whole behind) (at_line said.line (nothing_behind decision said.rest))
+    else if bytes_eq said.word (codes "done") then and_then (λ whole. nothing_more whole behind) (at_line said.line (nothing_behind decision said.rest))
     else Err (At said.line P1)
 
 -- after a problem comes what is claimed of it, and then the certificate

@@ -44,7 +44,7 @@ slope_of true (word ∷ rest) = option_map (λ slope. record { slope = slope; re
 abbrev pub is_slope_where : Bool → ℤ → Bool
 is_slope_where present slope = is_slope slope && (present || (int_le (pos 0) slope && int_le slope (pos 0)))
 
--- such slopes on all four axes, of which so many are there
+-- the slopes on all four axes are within their bounds, and 0 along each axis behind the first `axes`
 abbrev pub are_slopes : ℕ → List ℤ → Bool
 are_slopes axes slopes =
     is_slope_where (nat_lt 0 axes) (slice_index_or slopes 0 (pos 0)) && is_slope_where (nat_lt 1 axes) (slice_index_or slopes 1 (pos 0))
@@ -54,7 +54,7 @@ are_slopes axes slopes =
 abbrev pub slopes_with : Slope → Slope → Slope → Slope → Option (List ℤ)
 slopes_with one two three four = if length four.rest == 0 then Some (one.slope ∷ two.slope ∷ three.slope ∷ four.slope ∷ []) else None
 
--- the slopes along so many axes
+-- the slopes along `axes` axes that the words spell, read from the last line up
 abbrev pub slopes_of : ℕ → List (List ℕ) → Option (List ℤ)
 slopes_of axes words =
     option_and_then (λ one.
@@ -72,7 +72,7 @@ sloped axes area [] = None
 sloped axes area (word ∷ rest) =
     option_and_then (λ base. option_map (λ slope. record { area = area; base = base; slope = slope }) (slopes_of axes rest)) (integer_of (10 ^ 14) word)
 
--- the piece that the words spell, over so many axes
+-- the piece over `axes` axes that the words spell; the ranges on its axes are read from the last line up
 abbrev pub piece_of : ℕ → List (List ℕ) → Option Piece
 piece_of axes words =
     option_and_then (λ one.

@@ -16,7 +16,7 @@ use Rattle.ivp_func.specs.Functions.{has_values, is_partition}
 use Rattle.ivp_problem.specs.declared.term.Term.{Term}
 use Rattle.ivp_problem.specs.Problems.{is_weight, WeightedSum}
 use Rattle.ivp_cert.specs.Pieces.{piece_of}
-use Rattle.ivp_cert.specs.SaidLines.{last_of, SaidLine, said_from}
+use Rattle.ivp_cert.specs.SaidLines.{nothing_more, SaidLine, said_from}
 use Rattle.ivp_cert.specs.Unfinished.{UnfinishedSum}
 use Rattle.ivp_cert.specs.Words.{axis_of}
 use Rattle.moos_text.specs.Numbers.{milli_of}
@@ -32,7 +32,7 @@ abbrev pub over : Result (List Axis) DomainFault → Result (List Axis) Cause
 over (Ok axes) = Ok axes
 over (Err fault) = Err P2
 
--- one axis more: the fifth is refused, and one that makes no domain with those before it
+-- the axes with one more: the fifth is refused, and one that makes no domain with those before it
 abbrev pub with_axis : List Axis → Option Axis → Result (List Axis) Cause
 with_axis axes None = Err P2
 with_axis axes (Some axis) = if nat_lt (length axes) 4 then over (domain_of (axes ++ axis ∷ [])) else Err P2
@@ -43,7 +43,7 @@ with_domain axes [] = Err P1
 with_domain axes (word ∷ []) = with_axis axes (axis_of word)
 with_domain axes (word ∷ more ∷ rest) = Err P1
 
--- one function more, which has no piece yet; its weight counts thousandths, and one out of range is refused
+-- the sum with one more function, which has no piece yet; its weight counts thousandths, and one out of range is refused
 abbrev pub with_weight : WeightedSum → ℕ → Option ℤ → Result UnfinishedSum Cause
 with_weight before line None = Err P6
 with_weight before line (Some (negsuc n)) = Err P6
@@ -56,7 +56,7 @@ with_function before line [] = Err P1
 with_function before line (word ∷ []) = if nat_lt (length before.terms) 64 then with_weight before line (milli_of word) else Err P7
 with_function before line (word ∷ more ∷ rest) = Err P1
 
--- one piece more of the last function; the 4,097th is refused, and one whose box is empty or not in the domain
+-- the sum with one more piece of the last function; the 4,097th is refused, and one whose box is empty or not in the domain
 abbrev pub with_piece : UnfinishedSum → Option Piece → Result UnfinishedSum Cause
 with_piece sum None = Err P1
 with_piece sum (Some piece) =
@@ -64,7 +64,7 @@ with_piece sum (Some piece) =
     (if is_box_of sum.before.axes piece.area then Ok (record sum { pieces = sum.pieces ++ piece ∷ [] }) else Err P3)
     else Err P7
 
--- the last function, to which no piece is added any more
+-- the last function, to which no more pieces are added
 abbrev pub last_term : UnfinishedSum → Term
 last_term sum = record { weight = sum.weight; func = record { axes = sum.before.axes; pieces = sum.pieces } }
 
@@ -123,4 +123,4 @@ problem_in last next (said ∷ behind) = if is_first said.word said.rest then do
 
 -- What the bytes of a problem stand for. Lines are counted from 1.
 abbrev pub problem_of : List ℕ → Result WeightedSum ReadFault
-problem_of bytes = problem_in (last_line bytes) last_of (said_from 0 (raw_lines bytes))
+problem_of bytes = problem_in (last_line bytes) nothing_more (said_from 0 (raw_lines bytes))

@@ -16,12 +16,12 @@ abbrev pub said_with : ℕ → List (List ℕ) → List SaidLine → List SaidLi
 said_with line [] behind = behind
 said_with line (word ∷ rest) behind = record { line = line; word = word; rest = rest } ∷ behind
 
--- the lines that say something, if so many lines are before them
+-- the lines that say something, if `before` lines are before them
 abbrev pub said_from : ℕ → List (List ℕ) → List SaidLine
 said_from before [] = []
 said_from before (raw ∷ raws) = said_with (suc before) (line_words raw) (said_from (suc before) raws)
 
--- what was read, if no line behind it says anything
-abbrev pub last_of : {A : Type 0} → A → List SaidLine → Result A ReadFault
-last_of value [] = Ok value
-last_of value (said ∷ behind) = Err (At said.line P1)
+-- what was read, if nothing more is said: no line behind it says anything
+abbrev pub nothing_more : {A : Type 0} → A → List SaidLine → Result A ReadFault
+nothing_more value [] = Ok value
+nothing_more value (said ∷ behind) = Err (At said.line P1)

@@ -46,7 +46,7 @@ after_functions sum line word words =
     else if bytes_eq word (codes "end") then and_then (λ whole. at_line line (as_now Ended (nothing_behind whole words))) (finished sum)
     else Err (At line P1)
 
--- the stage after one line more of a problem, by its first word and those behind
+-- the stage after one more line of a problem, by its first word and those behind
 abbrev pub after_word : ℕ → ProblemStage → List ℕ → List (List ℕ) → Result ProblemStage ReadFault
 after_word line Start word words = at_line line (after_start word words)
 after_word line Begun word words = at_line line (after_begun word words)
@@ -54,7 +54,7 @@ after_word line (Axes axes) word words = at_line line (after_axes axes line word
 after_word line (Functions sum) word words = after_functions sum line word words
 after_word line (Ended problem) word words = Err (At line P1)
 
--- the same by the words of the line, which says nothing if it is blank
+-- the stage after one more line of a problem, by the words of the line, which says nothing if it is blank
 abbrev pub stage_after : ℕ → ProblemStage → List (List ℕ) → Result ProblemStage ReadFault
 stage_after line stage [] = Ok stage
 stage_after line stage (word ∷ words) = after_word line stage word words
@@ -78,7 +78,7 @@ after_cuts decision word words =
     else if bytes_eq word (codes "done") then as_now Done (nothing_behind decision words)
     else Err P1
 
--- the phase after one line more behind a stage of the problem, by its first word and those behind
+-- the phase after one more line behind a stage of the problem, by its first word and those behind
 abbrev pub after_stage : ℕ → ProblemStage → List ℕ → List (List ℕ) → Result DecisionStage ReadFault
 after_stage line Start word words = as_now OfProblem (after_word line Start word words)
 after_stage line Begun word words = as_now OfProblem (after_word line Begun word words)
@@ -86,13 +86,13 @@ after_stage line (Axes axes) word words = as_now OfProblem (after_word line (Axe
 after_stage line (Functions sum) word words = as_now OfProblem (after_word line (Functions sum) word words)
 after_stage line (Ended problem) word words = at_line line (after_problem problem word words)
 
--- the phase after one line more of a decision
+-- the phase after one more line of a decision, by its first word and those behind
 abbrev pub after_first : ℕ → DecisionStage → List ℕ → List (List ℕ) → Result DecisionStage ReadFault
 after_first line (OfProblem stage) word words = after_stage line stage word words
 after_first line (OfCuts decision) word words = at_line line (after_cuts decision word words)
 after_first line (Done decision) word words = Err (At line P1)
 
--- the same by the words of the line, which says nothing if it is blank
+-- the phase after one more line of a decision, by the words of the line, which says nothing if it is blank
 abbrev pub phase_after : ℕ → DecisionStage → List (List ℕ) → Result DecisionStage ReadFault
 phase_after line phase [] = Ok phase
 phase_after line phase (word ∷ words) = after_first line phase word words

@@ -34,7 +34,7 @@ ends_of area =
     slice_index area.low 0 ∷ slice_index area.high 0 ∷ slice_index area.low 1 ∷ slice_index area.high 1
     ∷ slice_index area.low 2 ∷ slice_index area.high 2 ∷ slice_index area.low 3 ∷ slice_index area.high 3 ∷ []
 
--- `piece`, then low and high on each of so many axes, the base, and the slope along each
+-- `piece`, then low and high on each of `axes` axes, the base, and the slope along each
 abbrev pub piece_text : List ℕ → ℕ → Piece → List ℕ
 piece_text prefix axes piece =
     concat (prefix ∷ codes "piece" ∷ [])
@@ -51,7 +51,7 @@ problem_text prefix problem =
     concat (prefix ∷ codes "ivp 1\n" ∷ [])
     ++ (flat_map (axis_text prefix) problem.axes ++ (flat_map (term_text prefix (length problem.axes)) problem.terms ++ concat (prefix ∷ codes "end\n" ∷ [])))
 
--- `decision`, then the place on each of so many axes, and the sum
+-- `decision`, then the place on each of `axes` axes, and the sum
 abbrev pub claim_text : List ℕ → ℕ → Claim → List ℕ
 claim_text prefix axes claim =
     concat (prefix ∷ codes "decision" ∷ []) ++ (flat_map number_word (take axes claim.point.at) ++ concat (codes " " ∷ unsigned_text claim.sum ∷ codes "\n" ∷ []))

@@ -26,7 +26,7 @@ abbrev pub behind_child : (Node → List Line → Option (List Line)) → Option
 behind_child behind None lines = Some lines
 behind_child behind (Some child) lines = behind child lines
 
--- the lines behind those of so many numbers, from low on, one after the other
+-- the lines behind those of `count` children, from number `low` on, one after the other
 abbrev pub behind_each : (ℕ → List Line → Option (List Line)) → ℕ → ℕ → List Line → Option (List Line)
 behind_each behind low zero lines = Some lines
 behind_each behind low (suc count) lines = option_and_then (behind_each behind (suc low) count) (behind low lines)

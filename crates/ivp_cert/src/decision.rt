@@ -25,7 +25,7 @@ pub fn read_decision(alloc: Global, bytes: &[u8]) -> Result<Decision, ReadFault>
     let mut left = bytes;
     while let Some((line, rest)) = next_whole_line(left) {
         lines += 1;
-        phase = phase.after_line(alloc, lines, line)?;
+        phase.after_line(alloc, lines, line)?;
         left = rest;
     }
     phase.whole_decision(lines.max(1))

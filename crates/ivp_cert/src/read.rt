@@ -19,7 +19,7 @@ pub fn read_problem(alloc: Global, bytes: &[u8]) -> Result<Problem, ReadFault>
     let mut left = bytes;
     while let Some((line, rest)) = next_whole_line(left) {
         lines += 1;
-        stage = stage.after_line(alloc, lines, line)?;
+        stage.after_line(alloc, lines, line)?;
         left = rest;
     }
     stage.whole_problem(lines.max(1))

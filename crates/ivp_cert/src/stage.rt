@@ -1,5 +1,5 @@
 // How far a problem has been read.
-ghost use Rattle.std.specs.Prelude.{◌≡◌, ◌<◌, ◌∷◌, [], Ok, Err, Some, length, IfOk, IfErr};
+ghost use Rattle.std.specs.Prelude.{◌≡◌, ◌<◌, ◌∷◌, [], Ok, Err, Some, bytes_eq, codes, false, length, IfOk, IfErr, OnOk};
 ghost use Rattle.moos_text.specs.Lines.{trimmed, words_of};
 ghost use Rattle.moos_text.specs.Refusals.{IsFirst, IsLineFault, at_line};
 ghost use Rattle.ivp_cert.specs.Problems.{nothing_behind, ended_early, with_axis, with_domain, with_function, with_piece, with_weight};
@@ -17,6 +17,7 @@ use ivp_problem::{MOST_FUNCTIONS, MOST_WEIGHT, Problem};
 use moos_post::Milli;
 use moos_text::{Cause, LineFault, ReadFault, next_word, read_milli};
 use std::alloc::Global;
+use std::mem;
 
 /// How far the lines of a problem have come.
 #[derive(Drop)]
@@ -34,30 +35,84 @@ pub enum ProblemStage {
 }
 
 impl ProblemStage {
-    /// The stage after one line more, which has this number and is given without its end; or its first refusal.
-    pub fn after_line(
-        self,
-        alloc: Global,
-        number: u32,
-        line: &[u8],
-    ) -> Result<ProblemStage, ReadFault>
-        ensures read { IfOk result (λ stage. stage_after number self (words_of (without_prefix (trimmed line.now))) ≡ Ok stage) }
-        ensures refused { IfErr result (λ fault. IsFirst fault (stage_after number self (words_of (without_prefix (trimmed line.now))))) }
+    /// Goes on by one line more, which has this number and is given without its end; or gives its refusal, behind which
+    /// nothing more is read.
+    pub fn after_line(&mut self, alloc: Global, number: u32, line: &[u8]) -> Result<(), ReadFault>
+        ensures read { OnOk result (stage_after number self.old (words_of (without_prefix (trimmed line.now))) ≡ Ok self.new) }
+        ensures refused { IfErr result (λ fault. IsFirst fault (stage_after number self.old (words_of (without_prefix (trimmed line.now))))) }
     {
         match next_word(content_of(line)) {
-            None => Ok(self),
+            None => Ok(()),
             Some((word, rest)) => self.after_word(alloc, number, word, rest),
         }
     }
 
-    /// The same by the line's first word and what follows it.
+    /// The same by the line's first word and what follows it. Most lines are pieces, which move nothing.
     pub fn after_word(
+        &mut self,
+        alloc: Global,
+        number: u32,
+        word: &[u8],
+        rest: &[u8],
+    ) -> Result<(), ReadFault>
+        ensures read { OnOk result (after_word number self.old word.now (words_of rest.now) ≡ Ok self.new) }
+        ensures refused { IfErr result (λ fault. IsFirst fault (after_word number self.old word.now (words_of rest.now))) }
+    {
+        if word == b"piece".as_slice() {
+            return self.after_piece(number, rest);
+        }
+        self.move_on(alloc, number, word, rest)
+    }
+
+    // The same of a piece, which stands in a function alone.
+    fn after_piece(&mut self, number: u32, rest: &[u8]) -> Result<(), ReadFault>
+        ensures read { OnOk result (after_word number self.old (codes "piece") (words_of rest.now) ≡ Ok self.new) }
+        ensures refused { IfErr result (λ fault. IsFirst fault (after_word number self.old (codes "piece") (words_of rest.now))) }
+    {
+        match self {
+            ProblemStage::Functions(sum) => match add_piece(sum, rest) {
+                Ok(()) => Ok(()),
+                Err(fault) => Err(fault.at(number)),
+            },
+            ProblemStage::Start
+            | ProblemStage::Begun
+            | ProblemStage::Axes(_)
+            | ProblemStage::Ended(_) => {
+                Err(ReadFault::At {
+                    line: number,
+                    cause: Cause::P1,
+                })
+            }
+        }
+    }
+
+    // The same of any other line.
+    #[inline(never)]
+    fn move_on(
+        &mut self,
+        alloc: Global,
+        number: u32,
+        word: &[u8],
+        rest: &[u8],
+    ) -> Result<(), ReadFault>
+        requires { bytes_eq word.now (codes "piece") ≡ false }
+        ensures read { OnOk result (after_word number self.old word.now (words_of rest.now) ≡ Ok self.new) }
+        ensures refused { IfErr result (λ fault. IsFirst fault (after_word number self.old word.now (words_of rest.now))) }
+    {
+        let before = mem::replace(self, ProblemStage::Start);
+        *self = before.moved(alloc, number, word, rest)?;
+        Ok(())
+    }
+
+    // The stage after a line that is no piece.
+    fn moved(
         self,
         alloc: Global,
         number: u32,
         word: &[u8],
         rest: &[u8],
     ) -> Result<ProblemStage, ReadFault>
+        requires { bytes_eq word.now (codes "piece") ≡ false }
         ensures read { IfOk result (λ stage. after_word number self word.now (words_of rest.now) ≡ Ok stage) }
         ensures refused { IfErr result (λ fault. IsFirst fault (after_word number self word.now (words_of rest.now))) }
     {
@@ -154,7 +209,7 @@ fn after_axes(
     }
 }
 
-// In a function comes a piece of it, or another function or the end, which finish it first.
+// In a function comes another function or the end, which finish it first.
 fn after_functions(
     alloc: Global,
     sum: Unfinished,
@@ -162,15 +217,10 @@ fn after_functions(
     word: &[u8],
     rest: &[u8],
 ) -> Result<ProblemStage, ReadFault>
+    requires { bytes_eq word.now (codes "piece") ≡ false }
     ensures read { IfOk result (λ stage. after_functions sum number word.now (words_of rest.now) ≡ Ok stage) }
     ensures refused { IfErr result (λ fault. IsFirst fault (after_functions sum number word.now (words_of rest.now))) }
 {
-    if word == b"piece".as_slice() {
-        return match with_piece(sum, rest) {
-            Ok(sum) => Ok(ProblemStage::Functions(sum)),
-            Err(fault) => Err(fault.at(number)),
-        };
-    }
     if word == b"function".as_slice() {
         let before = sum.finished(alloc)?;
         return match with_function(alloc, before, number, rest) {
@@ -262,12 +312,12 @@ fn with_weight(alloc: Global, before: Terms, line: u32, weight: Milli) -> Result
 }
 
 // One piece more of the last function.
-fn with_piece(sum: Unfinished, rest: &[u8]) -> Result<Unfinished, LineFault>
-    ensures read { IfOk result (λ more. with_piece sum (piece_of (length sum.before.axes) (words_of rest.now)) ≡ Ok more) }
-    ensures refused { IfErr result (λ fault. IsLineFault fault (with_piece sum (piece_of (length sum.before.axes) (words_of rest.now)))) }
+fn add_piece(sum: &mut Unfinished, rest: &[u8]) -> Result<(), LineFault>
+    ensures read { OnOk result (with_piece sum.old (piece_of (length sum.old.before.axes) (words_of rest.now)) ≡ Ok sum.new) }
+    ensures refused { IfErr result (λ fault. IsLineFault fault (with_piece sum.old (piece_of (length sum.old.before.axes) (words_of rest.now)))) }
 {
     match piece_of(sum.domain().axes(), rest) {
-        Some(piece) => sum.with_piece(piece),
+        Some(piece) => sum.add_piece(piece),
         None => Err(LineFault::Refused(Cause::P1)),
     }
 }

@@ -1,5 +1,5 @@
 // A function whose pieces are still being read.
-ghost use Rattle.std.specs.Prelude.{◌≡◌, ◌<◌, [], Ok, Some, length, IfOk, IfErr, IsTrue};
+ghost use Rattle.std.specs.Prelude.{◌≡◌, ◌<◌, [], Ok, Some, length, IfOk, IfErr, IsTrue, OnOk};
 ghost use Rattle.moos_text.specs.Refusals.{IsFirst, IsLineFault};
 ghost use Rattle.ivp_func.specs.Pieces.{is_box_of, is_piece_of};
 ghost use Rattle.ivp_problem.specs.Problems.{is_weight};
@@ -72,10 +72,10 @@ impl Unfinished {
     }
 
     /// One piece more of the last function.
-    pub fn with_piece(mut self, piece: Piece) -> Result<Unfinished, LineFault>
-        requires { is_piece_of self.before.axes piece ≡ is_box_of self.before.axes piece.area }
-        ensures read { IfOk result (λ sum. with_piece self (Some piece) ≡ Ok sum) }
-        ensures refused { IfErr result (λ fault. IsLineFault fault (with_piece self (Some piece))) }
+    pub fn add_piece(&mut self, piece: Piece) -> Result<(), LineFault>
+        requires { is_piece_of self.old.before.axes piece ≡ is_box_of self.old.before.axes piece.area }
+        ensures read { OnOk result (with_piece self.old (Some piece) ≡ Ok self.new) }
+        ensures refused { IfErr result (λ fault. IsLineFault fault (with_piece self.old (Some piece))) }
     {
         if self.pieces.len() >= MOST_PIECES {
             return Err(LineFault::Refused(Cause::P7));
@@ -84,7 +84,7 @@ impl Unfinished {
             return Err(LineFault::Refused(Cause::P3));
         }
         match self.pieces.push(piece) {
-            Ok(()) => Ok(self),
+            Ok(()) => Ok(()),
             Err(_) => Err(LineFault::NoMemory),
         }
     }

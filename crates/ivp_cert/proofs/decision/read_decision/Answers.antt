@@ -15,9 +15,9 @@ loop-line-preserved c =
     let next : IsNext c.loop-line.left.now c.in-Some.line.now c.in-Some.rest.now =
     record { text = c.in-Some.ensures.line; lines = c.in-Some.ensures.lines; shorter = omega (arith, c.in-Some.ensures.shorter) } in
     record {
-      read = one_read phase_after (OfProblem Start) c.args.bytes.now c.loop-line.lines c.loop-line.phase c.in_ok-phase.phase c.loop-line.left.now c.in-Some.line.now c.in-Some.rest.now c.loop-line.invariant.read
-          next c.in_ok-phase.ensures.read;
-      point = c.in_ok-phase.ensures.point;
+      read = one_read phase_after (OfProblem Start) c.args.bytes.now c.loop-line.lines c.loop-line.phase c.after_line.new.self c.loop-line.left.now c.in-Some.line.now c.in-Some.rest.now c.loop-line.invariant.read
+          next c.in_ok-after_line.ensures.read;
+      point = c.in_ok-after_line.ensures.point;
     }
 
 pub returns-clause-sums : goal.returns-clause-sums
@@ -25,12 +25,12 @@ returns-clause-sums c =
     read_sums c.args.bytes.now c.whole_decision.result
     (read_whole c.args.bytes.now c.loop-line.lines c.max.result c.loop-line.phase c.loop-line.left.now c.loop-line.invariant.read c.in_default.ensures.none c.max.ensures ∙ sym c.whole_decision.ensures.whole)
 
-pub returns-in_err-phase-clause-refused : goal.returns-in_err-phase-clause-refused
-returns-in_err-phase-clause-refused c =
+pub returns-in_err-after_line-clause-refused : goal.returns-in_err-after_line-clause-refused
+returns-in_err-after_line-clause-refused c =
     let next : IsNext c.loop-line.left.now c.in-Some.line.now c.in-Some.rest.now =
     record { text = c.in-Some.ensures.line; lines = c.in-Some.ensures.lines; shorter = omega (arith, c.in-Some.ensures.shorter) } in
     let first = one_refused phase_after (OfProblem Start) (whole_decision (last_line c.args.bytes.now)) (decision_of c.args.bytes.now) c.args.bytes.now c.loop-line.lines c.loop-line.phase c.loop-line.left.now c.in-Some.line.now c.in-Some.rest.now
-    c.in_err-phase.field-0.0 (decision_read c.args.bytes.now) c.loop-line.invariant.read next c.in_err-phase.ensures.refused in
+    c.in_err-after_line.field-0.0 (decision_read c.args.bytes.now) c.loop-line.invariant.read next c.in_err-after_line.ensures.refused in
     let p = err_from_is_err_and c.from_residual.result c.from_residual.ensures.1 in
     rw (p.1, p.2) first
 

@@ -13,15 +13,15 @@ pub loop-line-preserved : goal.loop-line-preserved
 loop-line-preserved c =
     let next : IsNext c.loop-line.left.now c.in-Some.line.now c.in-Some.rest.now =
     record { text = c.in-Some.ensures.line; lines = c.in-Some.ensures.lines; shorter = omega (arith, c.in-Some.ensures.shorter) } in
-    one_read stage_after Start c.args.bytes.now c.loop-line.lines c.loop-line.stage c.in_ok-stage.stage c.loop-line.left.now c.in-Some.line.now c.in-Some.rest.now c.loop-line.invariant
-    next c.in_ok-stage.ensures.read
+    one_read stage_after Start c.args.bytes.now c.loop-line.lines c.loop-line.stage c.after_line.new.self c.loop-line.left.now c.in-Some.line.now c.in-Some.rest.now c.loop-line.invariant
+    next c.in_ok-after_line.ensures.read
 
-pub returns-in_err-stage-clause-refused : goal.returns-in_err-stage-clause-refused
-returns-in_err-stage-clause-refused c =
+pub returns-in_err-after_line-clause-refused : goal.returns-in_err-after_line-clause-refused
+returns-in_err-after_line-clause-refused c =
     let next : IsNext c.loop-line.left.now c.in-Some.line.now c.in-Some.rest.now =
     record { text = c.in-Some.ensures.line; lines = c.in-Some.ensures.lines; shorter = omega (arith, c.in-Some.ensures.shorter) } in
     let first = one_refused stage_after Start (whole_problem (last_line c.args.bytes.now)) (problem_of c.args.bytes.now) c.args.bytes.now c.loop-line.lines c.loop-line.stage c.loop-line.left.now c.in-Some.line.now c.in-Some.rest.now
-    c.in_err-stage.field-0.0 (problem_read c.args.bytes.now) c.loop-line.invariant next c.in_err-stage.ensures.refused in
+    c.in_err-after_line.field-0.0 (problem_read c.args.bytes.now) c.loop-line.invariant next c.in_err-after_line.ensures.refused in
     let p = err_from_is_err_and c.from_residual.result c.from_residual.ensures.1 in
     rw (p.1, p.2) first
 
