@@ -165,7 +165,7 @@ puts_all task sink has (wrote, fell) =
     let output : IsOutput task wrote.status wrote.text = subst (λ one. IsOutput one wrote.status wrote.text) same wrote.output in
     let n = wrote.took.0 in
     let took : sink.taken_after ≡ Some (has.taken ++ take n wrote.text) = subst (λ before. Took before sink.taken_after (take n wrote.text)) has.telling wrote.took.2 in
-    let past : sink.faults_before.firm ≤ length (has.taken ++ take n wrote.text) = subst (λ taken. IfSome taken (λ bytes. sink.faults_before.firm ≤ length bytes)) took fell.past in
+    let past : sink.fared_before.firm ≤ length (has.taken ++ take n wrote.text) = subst (λ taken. IfSome taken (λ bytes. sink.fared_before.firm ≤ length bytes)) took fell.past in
     omega (arith, past, has.room wrote.status wrote.text output, wrote.took.1, length-append has.taken (take n wrote.text), length-take {A = ℕ} n wrote.text)
 
 pub completes : (words : List (List ℕ)) (run : Surroundings) (status : Status) → EndsWith words run status → Completes words run status

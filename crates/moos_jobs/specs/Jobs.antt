@@ -53,8 +53,9 @@ abbrev pub script_turn : Order → Script → Option (List ℕ) → List (List �
 script_turn order script None files = Ready (Playing order script None)
 script_turn order script (Some name) files = helm_turn (helm_played order script) script name files
 
--- Where a job is, by the bytes of the files that were loaded so far, in order: a script, its mission, and the behaviour file
--- that the mission names; or the one file of another job, or none. The number of workers is no part of it.
+-- Where a job is, by the bytes of the files that it has loaded so far, in order. `play` loads a script, a mission if one is
+-- named, and the behaviour file that the mission names; `solve` and `check` load one file, and `generate` none; `share` and
+-- `simulate` load those of `share_turn` and `simulate_turn`. The number of workers is no part of it.
 abbrev pub turn_of : Job → List (List ℕ) → FileTurn Task
 turn_of (Play name mission order workers) [] = Wanted ScriptFile name
 turn_of (Play name mission order workers) (bytes ∷ more) = turn_behind ScriptFile (λ script. script_turn order script mission more) (script_of bytes)
@@ -80,7 +81,8 @@ abbrev pub IsLawfulWith : Order → Script → Option HelmFiles → History → 
 IsLawfulWith order script helm history = IsLawful order script (option_map (helm_setup_by script) helm) (names_with script helm) history
 
 -- The text is the report of a lawful history, which is the one that the text lists: no other lawful history has it. What a helm
--- decides in it is decided by worth: the first point at which the sum over its behaviours of weight times utility is greatest.
+-- decides in it is decided by worth: the first point at which the sum over its behaviours of weight times worth is greatest. The
+-- worth of keeping clear of a contact is its sampled utility.
 pub record IsReport (order : Order) (script : Script) (helm : Option HelmFiles) (text : List ℕ) : Type 0 where
   pub history : History
   pub lawful : IsLawfulWith order script helm history

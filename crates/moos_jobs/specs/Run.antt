@@ -31,31 +31,31 @@ EndsWith words run Usage = HasNoJob words run
 EndsWith words run NoMemory = IsUntouched run.sink ⊎ DidJob words run NoMemory
 EndsWith words run status = DidJob words run status
 
--- the words name this job, and a folder that tells its files has these, which are all that the job loads
+-- the words name this job, and a folder that tells its files has these, which are the first that the job loads, in order
 pub record HasFiles (words : List (List ℕ)) (run : Surroundings) (job : Job) (files : List (List ℕ)) : Type 0 where
   pub told : List ℕ → Option (List ℕ)
   pub telling : run.told ≡ Some told
   pub named : job_named words ≡ Some job
   pub loaded : AreLoaded run.told (turn_of job) [] files
 
--- such a job, if neither loading nor writing failed
+-- the words name this job, a folder that tells its files has these, and neither loading nor writing failed
 pub record IsServed (words : List (List ℕ)) (run : Surroundings) (job : Job) (files : List (List ℕ)) : Type 0 where
   pub has : HasFiles words run job files
   pub loads : Rose run.load_faults_before run.load_faults_after → ⊥
-  pub puts : Rose run.sink.faults_before.faults run.sink.faults_after.faults → ⊥
+  pub puts : Rose run.sink.fared_before.faults run.sink.fared_after.faults → ⊥
 
--- such a job, if the folder is sure of each file that it tells
+-- the words name this job, and a folder that tells its files has these, and is sure of each file that it tells
 pub record IsHeld (words : List (List ℕ)) (run : Surroundings) (job : Job) (files : List (List ℕ)) : Type 0 where
   pub has : HasFiles words run job files
   pub sure : (name bytes : List ℕ) → has.told name ≡ Some bytes → is_among run.sure name ≡ true
 
--- the sink tells what it took, and takes for sure, behind that, each text that the task may write
+-- the sink tells what it took, and is sure to take each text that the task may write behind that
 pub record HasRoomFor (task : Task) (sink : Sinking) : Type 0 where
   pub taken : List ℕ
   pub telling : sink.taken_before ≡ Some taken
-  pub room : (status : Status) (text : List ℕ) → IsOutput task status text → length taken + length text ≤ sink.faults_before.firm
+  pub room : (status : Status) (text : List ℕ) → IsOutput task status text → length taken + length text ≤ sink.fared_before.firm
 
--- the run wrote all that the task may write and end with this status, or no memory was left
+-- the run wrote the whole of a text that the task may write with this status, or no memory was left
 abbrev pub IsDoneBut : Task → Surroundings → Status → Type 0
 IsDoneBut task run status = WroteAll outcomes (Ready task) status run.sink ⊎ (status ≡ NoMemory)
 
@@ -63,25 +63,27 @@ IsDoneBut task run status = WroteAll outcomes (Ready task) status run.sink ⊎ (
 abbrev pub IsRefusedBut : FileKind → ℕ → Cause → Status → Type 0
 IsRefusedBut kind line cause status = (status ≡ Refused (record { file = kind; line = line; cause = cause })) ⊎ (status ≡ NoMemory)
 
--- a job whose files are good, and that nothing fails at, writes all that it may write and end with this status: it is done,
--- and a check answers whether the decision is accepted; unless no memory was left
+-- A job whose files are good writes the whole of a text that it may write with this status, if neither loading nor writing
+-- failed: it is done, or a check says no. Or no memory was left.
 abbrev pub Completes : List (List ℕ) → Surroundings → Status → Type 0
 Completes words run status =
     (job : Job) (files : List (List ℕ)) (task : Task) → IsServed words run job files → turn_of job files ≡ Ready task → IsDoneBut task run status
 
--- a job of whose files the last one isn't good, and that nothing fails at, is refused with that file's first refusal, unless no
--- memory was left
+-- A job of whose files the last one isn't good is refused with that file's first refusal, if neither loading nor writing failed.
+-- Or no memory was left.
 abbrev pub Refuses : List (List ℕ) → Surroundings → Status → Type 0
 Refuses words run status =
     (job : Job) (files : List (List ℕ)) (kind : FileKind) (line : ℕ) (cause : Cause) → IsServed words run job files → turn_of job files ≡ Unfit kind (At line cause)
     → IsRefusedBut kind line cause status
 
--- the first of both if nothing can fail: the folder is sure of its files, and the sink has room for the output
+-- A job whose files are good writes the whole of a text that it may write with this status, if the folder is sure of its files
+-- and the sink has room for each such text. Or no memory was left.
 abbrev pub Succeeds : List (List ℕ) → Surroundings → Status → Type 0
 Succeeds words run status =
     (job : Job) (files : List (List ℕ)) (task : Task) → IsHeld words run job files → turn_of job files ≡ Ready task → HasRoomFor task run.sink → IsDoneBut task run status
 
--- and the second, whatever the sink
+-- A job of whose files the last one isn't good is refused with that file's first refusal, if the folder is sure of its files, and
+-- whatever the sink does. Or no memory was left.
 abbrev pub Declines : List (List ℕ) → Surroundings → Status → Type 0
 Declines words run status =
     (job : Job) (files : List (List ℕ)) (kind : FileKind) (line : ℕ) (cause : Cause) → IsHeld words run job files → turn_of job files ≡ Unfit kind (At line cause)

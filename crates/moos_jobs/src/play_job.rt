@@ -15,7 +15,7 @@ use helm_files::{FittedHelm, HelmFiles, fit_helm, load_helm};
 use moos_io::{Folder, Gate, Sink};
 use moos_play::Order;
 use moos_post::Txt;
-use moos_report::{no_modes, report_law};
+use moos_report::{report_law, setup_without_helm};
 use script_reader::{Script, read_script};
 use std::alloc::Global;
 use std::sync::Wait;
@@ -130,6 +130,6 @@ fn play_alone<R: Threads + Wait + Sync, K: Sink, G: Gate>(
     ensures { Ended outcomes (Ready (Playing order script.now None)) (sinking (K.taken out.old) (K.taken out.new) (K.faults out.old) (K.faults out.new)) result }
 {
     report_law();
-    let setup = no_modes(alloc);
+    let setup = setup_without_helm(alloc);
     play_rounds(rt, alloc, script, None, &setup, order, 1, out, gate)
 }

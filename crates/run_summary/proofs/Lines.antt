@@ -5,7 +5,7 @@ use Rattle.std.proofs.lemmas.Bool.{and_parts, leb-true, ne_eqb}
 use Rattle.std.proofs.lemmas.List.Elements.{All-cons, All-head, All-nil, All-tail, All-weaker}
 use Rattle.moos_post.specs.declared.entry.Entry.{Entry}
 use Rattle.moos_client.specs.Calls.{entries_of}
-use Rattle.moos_lawful.specs.Schedules.{rises}
+use Rattle.moos_lawful.specs.Schedules.{never_falls}
 use Rattle.mission_maker.specs.Stamps.{rise_within}
 
 -- the first line of a stamp
@@ -54,16 +54,16 @@ head_among P client (entry ∷ entries) one is all = at (entry.client == client)
 pub own_head : (entry : Entry) (later : List Entry) → entries_of entry.client (entry ∷ later) ≡ entry ∷ entries_of entry.client later
 own_head entry later = ap (λ b. cond b (entry ∷ entries_of entry.client later) (entries_of entry.client later)) (eq-eqb entry.client entry.client refl)
 
-keys_from : (key : Entry → ℕ) (last : ℕ) (entries : List Entry) → rises last (map key entries) ≡ true → All (λ entry. last ≤ key entry) entries
+keys_from : (key : Entry → ℕ) (last : ℕ) (entries : List Entry) → never_falls last (map key entries) ≡ true → All (λ entry. last ≤ key entry) entries
 keys_from key last [] order = All-nil (λ entry. last ≤ key entry)
 keys_from key last (entry ∷ entries) order =
-    let parts = and_parts (nat_le last (key entry)) (rises (key entry) (map key entries)) order in
+    let parts = and_parts (nat_le last (key entry)) (never_falls (key entry) (map key entries)) order in
     let first = leb-true last (key entry) parts.0 in
     All-cons (λ entry. last ≤ key entry) entry entries first
     (All-weaker (λ other. key entry ≤ key other) (λ other. last ≤ key other) (λ other later. omega arith) entries (keys_from key (key entry) entries parts.1))
 
 -- no key of ordered entries is below the first one's
-pub first_least : (key : Entry → ℕ) (last : ℕ) (entry : Entry) (entries : List Entry) → rises last (map key (entry ∷ entries)) ≡ true → All (λ other. key entry ≤ key other) (entry ∷ entries)
+pub first_least : (key : Entry → ℕ) (last : ℕ) (entry : Entry) (entries : List Entry) → never_falls last (map key (entry ∷ entries)) ≡ true → All (λ other. key entry ≤ key other) (entry ∷ entries)
 first_least key last entry entries order =
-    let parts = and_parts (nat_le last (key entry)) (rises (key entry) (map key entries)) order in
+    let parts = and_parts (nat_le last (key entry)) (never_falls (key entry) (map key entries)) order in
     All-cons (λ other. key entry ≤ key other) entry entries (omega arith) (keys_from key (key entry) entries parts.1)

@@ -8,7 +8,7 @@ use Rattle.helm_core.specs.Ticks.{Tick}
 use Rattle.moos_client.specs.Calls.{entries_of}
 use Rattle.moos_post.specs.declared.entry.Entry.{Entry}
 use Rattle.moos_post.specs.History.{History}
-use Rattle.moos_lawful.specs.Schedules.{rises}
+use Rattle.moos_lawful.specs.Schedules.{never_falls}
 use Rattle.moos_play.specs.Lawful.{IsLawful, HelmSetup, heard_of, helm_number, moment_of, opening, ticks, ticks_of, ticks_to, mailed_in}
 use Rattle.moos_client.specs.Hearing.{heard_in}
 use Rattle.moos_client.proofs.Hearing.{heard_append}
@@ -122,8 +122,8 @@ not_both script helm names from to done one other later behind rise follows foll
 
 -- two first entries are one
 first_same : (script : Script) (helm : Option HelmSetup) (names : List (List ℕ)) (from to last : ℕ) (done : History) (one other : Entry) (later behind : History) → rise_within from to script.lines ≡ true
-    → Follows script helm names (done ++ one ∷ later) → Follows script helm names (done ++ other ∷ behind) → rises last (map (moment_of (helm_number script)) (one ∷ later)) ≡ true
-    → rises last (map (moment_of (helm_number script)) (other ∷ behind)) ≡ true → other ≡ one
+    → Follows script helm names (done ++ one ∷ later) → Follows script helm names (done ++ other ∷ behind) → never_falls last (map (moment_of (helm_number script)) (one ∷ later)) ≡ true
+    → never_falls last (map (moment_of (helm_number script)) (other ∷ behind)) ≡ true → other ≡ one
 first_same script helm names from to last done one other later behind rise follows follows' order order' =
     elim (cases_eq one.client other.client) [
       | inl same ↦
@@ -149,8 +149,8 @@ first_same script helm names from to last done one other later behind rise follo
 
 -- so they are one from any common front on
 follow : (script : Script) (helm : Option HelmSetup) (names : List (List ℕ)) (from to last : ℕ) (done rest other : History) → rise_within from to script.lines ≡ true
-    → Follows script helm names (done ++ rest) → Follows script helm names (done ++ other) → rises last (map (moment_of (helm_number script)) rest) ≡ true
-    → rises last (map (moment_of (helm_number script)) other) ≡ true → other ≡ rest
+    → Follows script helm names (done ++ rest) → Follows script helm names (done ++ other) → never_falls last (map (moment_of (helm_number script)) rest) ≡ true
+    → never_falls last (map (moment_of (helm_number script)) other) ≡ true → other ≡ rest
 follow script helm names from to last done [] [] rise follows follows' order order' = refl
 follow script helm names from to last done [] (two ∷ other) rise follows follows' order order' =
     let is : None ≡ Some two = next_same script helm names done [] (two ∷ other) follows follows' two.client ∙ ap head (own_head two other) in absurd cc
@@ -162,9 +162,9 @@ follow script helm names from to last done (one ∷ rest) (two ∷ other) rise f
     (follow script helm names from to (moment_of (helm_number script) one) (done ++ one ∷ []) rest other rise
     (subst (Follows script helm names) (sym (append_assoc done (one ∷ []) rest)) follows)
     (subst (Follows script helm names) (sym (append_assoc done (one ∷ []) other)) (subst (λ entry. Follows script helm names (done ++ entry ∷ other)) same follows'))
-    (and_parts (nat_le last (moment_of (helm_number script) one)) (rises (moment_of (helm_number script) one) (map (moment_of (helm_number script)) rest)) order).1
-    (and_parts (nat_le last (moment_of (helm_number script) one)) (rises (moment_of (helm_number script) one) (map (moment_of (helm_number script)) other))
-    (subst (λ entry. rises last (map (moment_of (helm_number script)) (entry ∷ other)) ≡ true) same order')).1)
+    (and_parts (nat_le last (moment_of (helm_number script) one)) (never_falls (moment_of (helm_number script) one) (map (moment_of (helm_number script)) rest)) order).1
+    (and_parts (nat_le last (moment_of (helm_number script) one)) (never_falls (moment_of (helm_number script) one) (map (moment_of (helm_number script)) other))
+    (subst (λ entry. never_falls last (map (moment_of (helm_number script)) (entry ∷ other)) ≡ true) same order')).1)
   where
     same : two ≡ one
     same = first_same script helm names from to last done one two rest other rise follows follows' order order'

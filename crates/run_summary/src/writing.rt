@@ -3,27 +3,27 @@ ghost use Rattle.std.specs.Prelude.{OnOk, OnErr};
 ghost use Rattle.moos_io.specs.Faults.{FaresOn, Fell};
 ghost use Rattle.moos_io.specs.Pieces.{Took, TookFront};
 ghost use Rattle.moos_io.specs.Writing.{Wrote, way};
-ghost use Rattle.run_summary.specs.Summary.{counts_text, summary_text};
+ghost use Rattle.run_summary.specs.Summary.{counts_of, counts_text};
 
-use crate::counts::{RunCounts, counts_of};
-use helm_core::Iteration;
+use crate::counts::{IterationCounts, RunCounts, counts_of};
 use moos_db::Db;
 use moos_io::{Buffer, Failed, Sink};
 use moos_text::print_decimals;
 
-/// Writes the summary of the run of the mission with this number. If the sink fails, it took a front of it, not the whole.
+/// Writes the summary of the run of the mission with this number; of its helm's iterations this much was counted. If the sink
+/// fails, it took a front of it, not the whole.
 pub fn summary<K: Sink>(
     number: u64,
     db: &Db,
-    iterations: &[Iteration],
+    counted: &IterationCounts,
     out: &mut K,
 ) -> Result<(), Failed>
-    ensures ok { OnOk result (Took (K.taken out.old) (K.taken out.new) (summary_text number db.now.names db.now.history iterations.now)) }
-    ensures front { OnErr result (TookFront (K.taken out.old) (K.taken out.new) (summary_text number db.now.names db.now.history iterations.now)) }
+    ensures ok { OnOk result (Took (K.taken out.old) (K.taken out.new) (counts_text number (counts_of db.now.names db.now.history counted.now))) }
+    ensures front { OnErr result (TookFront (K.taken out.old) (K.taken out.new) (counts_text number (counts_of db.now.names db.now.history counted.now))) }
     ensures later { FaresOn (K.faults out.old) (K.faults out.new) }
     ensures rose { OnErr result (Fell (K.faults out.old) (K.faults out.new) (K.taken out.new)) }
 {
-    let counts = counts_of(db, iterations);
+    let counts = counts_of(db, counted);
     let mut buffer = Buffer::new();
     if let Err(failed) = put_counts(number, &counts, &mut buffer, out) {
         return Err(failed);

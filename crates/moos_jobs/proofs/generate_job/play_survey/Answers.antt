@@ -1,17 +1,22 @@
--- What was played is the script that was made, with the survey's helm.
-use Rattle.std.specs.Prelude.{Result, Ok, Err, IfOk}
+-- What was played out is the script that was made, with the survey's helm.
+use Rattle.std.proofs.Common.{◌∙◌, sym}
+use Rattle.moos_play.specs.Lawful.{names_with}
+use Rattle.moos_play.specs.Plays.{clients_in}
 use Rattle.moos_jobs.specs.Generating.{IsSurvey}
-use Rattle.moos_jobs.proofs.Summing.{was_generated}
+use Rattle.moos_jobs.proofs.Summing.{names_alone, was_played_out}
 use Rattle.moos_jobs.proofs.generate_job.play_survey.Goals as goal
 
--- three facts of what was answered, and what follows from them
-together : {T : Type 0} {E : Type 0} {A B C D : T → Type 0} (result : Result T E) → IfOk result A → IfOk result B → IfOk result C → ((t : T) → A t → B t → C t → D t) → IfOk result D
-together (Ok t) a b c all = all t a b c
-together (Err _) _ _ _ _ = tt
+pub count_rounds-requires-clause-named : goal.count_rounds-requires-clause-named
+count_rounds-requires-clause-named g c κs lives =
+    let made = c.in_ok-play.ensures in
+    names_alone c.args.script.now c.in_ok-survey.survey c.new-further.result (clients_in c.in_ok-play.play) c.new-further.ensures made.names ∙ (λ i. names_with (sym made.script i) (sym made.helm i))
 
 pub returns : goal.returns
 returns g c = λ number is rises.
     let survey : IsSurvey c.in_ok-survey.survey = c.in_ok-survey.ensures in
-    together c.play.result c.play.ensures.names c.play.ensures.lawful c.play.ensures.iterations
-    (λ ran names lawful iterations. was_generated number c.args.script.now survey.files c.in_ok-survey.survey ran.db.names ran.db.history ran.iterations
-    is rises survey.mission survey.behaviors survey.plan survey.period names lawful iterations)
+    let made = c.in_ok-play.ensures in
+    let out = c.in_ok-iterations.ensures in
+    was_played_out number c.args.script.now survey.files c.in_ok-survey.survey c.count_rounds.new.play c.end-db.result.db.names c.end-db.result.db.history c.in_ok-iterations.iterations
+    is rises survey.mission survey.behaviors survey.plan survey.period (out.same.order ∙ made.order) (out.same.script ∙ made.script) (out.same.helm ∙ made.helm)
+    (out.same.names ∙ names_alone c.args.script.now c.in_ok-survey.survey c.new-further.result (clients_in c.in_ok-play.play) c.new-further.ensures made.names)
+    out.over c.end-db.ensures.names c.end-db.ensures.history out.counted

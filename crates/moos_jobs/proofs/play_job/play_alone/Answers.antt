@@ -6,4 +6,4 @@ use Rattle.moos_jobs.proofs.play_job.play_alone.Goals as goal
 
 pub returns : goal.returns
 returns g c =
-    told_ended c.args.order c.args.script.now None None c.no_modes-setup.result c.report_law.ensures c.requires.valid tt refl c.no_modes-setup.ensures _ c.play_rounds.result c.play_rounds.ensures
+    told_ended c.args.order c.args.script.now None None c.setup_without_helm-setup.result c.report_law.ensures c.requires.valid tt refl c.setup_without_helm-setup.ensures _ c.play_rounds.result c.play_rounds.ensures
