@@ -64,6 +64,15 @@ refused blocks clock template before kept all = record { ones = all; answer = re
 abbrev pub TellsGood : List Axis → Doer → Option (List ℕ) → Bool → Type 0
 TellsGood axes doer pairs test = (spec : Spec) (changes : List KindChange) → IsDoerOf spec changes doer → test ≡ are_good axes (params_at spec changes) pairs
 
+-- what is no item is none
+pub nothing_there : {A : Type 0} (found : Option A) → ((x : A) → found ≡ Some x → ⊥) → found ≡ None
+nothing_there None never = refl
+nothing_there (Some x) never = absurd (never x refl)
+
+-- the doer is the old one with the pairs of a letter
+abbrev pub TakesPairs : List Axis → Doer → Option (List ℕ) → Doer → Type 0
+TakesPairs axes old pairs new = (spec : Spec) (changes : List KindChange) → IsDoerOf spec changes old → IsDoerOf spec (with_said axes changes pairs) new
+
 -- a letter with a name that none of the list has
 module _ (axes : List Axis) (blocks : List Block) (clock at : ℕ) (template : Block) (before : Spawning) (said : NamedPairs) (kept : List Behavior) (all : AllZip (IsKept blocks clock) before.ones kept) where
   abbrev birth : Birth

@@ -37,11 +37,11 @@ pub record BhvSoFar : Type 0 where
 abbrev pub unstarted : Block → BhvSoFar
 unstarted block = record { name = block.common.name; block = block; born = None; lived = []; changes = [] }
 
--- what its turns so far came to
+-- what the behaviour's turns so far came to
 abbrev pub past_so_far : BhvSoFar → List BhvPast
 past_so_far one = past_of one.block.common one.lived
 
--- what its turn begins with
+-- what a behaviour's turn begins with
 abbrev pub beginning_at : Seen → Common → Beginning
 beginning_at seen common = beginning_of common seen.known seen.mode seen.parked seen.stamp
 
@@ -54,7 +54,8 @@ pub record Judged : Type 0 where
 abbrev pub none_judged : List KindChange → Judged
 none_judged changes = record { changes = changes; taken = [] }
 
--- one update more, over these axes, of a behaviour with these parameters in its file: a text may be good, a number never is
+-- the updates judged so far and one more, over these axes, of a behaviour with these parameters in its file: a text may be good,
+-- a number never is
 abbrev pub judged_with : List Axis → Spec → Judged → Value → Judged
 judged_with axes spec so_far (Num number) = record { changes = so_far.changes; taken = so_far.taken ++ false ∷ [] }
 judged_with axes spec so_far (Text text) = record {
@@ -62,7 +63,7 @@ judged_with axes spec so_far (Text text) = record {
   taken = so_far.taken ++ is_some (updated axes (params_at spec so_far.changes) text) ∷ [];
 }
 
--- a letter more, which is an update if it is of the behaviour's variable for updates
+-- the updates judged so far behind one more letter, which is an update if it is of the behaviour's variable for updates
 abbrev pub heard_with : List Axis → Option (List ℕ) → Spec → Judged → Pair → Judged
 heard_with axes updates spec so_far letter = if option_eq bytes_eq updates (Some letter.var) then judged_with axes spec so_far letter.value else so_far
 
@@ -70,7 +71,7 @@ heard_with axes updates spec so_far letter = if option_eq bytes_eq updates (Some
 abbrev pub judged_in : List Axis → Option (List ℕ) → Spec → List KindChange → List Pair → Judged
 judged_in axes updates spec changes letters = fold (heard_with axes updates spec) (none_judged changes) letters
 
--- the variable of its own updates: one that a letter made has none
+-- the variable of a behaviour's own updates: one that a letter made has none
 abbrev pub own_updates : BhvSoFar → Option (List ℕ)
 own_updates one = if is_some one.born then None else one.block.common.updates
 
@@ -100,19 +101,20 @@ abbrev pub begun_at : List Axis → Seen → BhvSoFar → TurnSoFar
 begun_at axes seen one =
     begun_by_step axes seen one (judged_at axes seen one) (is_stepped one.block.common (past_so_far one) (beginning_at seen one.block.common))
 
--- its step raised a fault
+-- the behaviour's step raised a fault
 abbrev pub has_fault : TurnSoFar → Bool
 has_fault one = is_some one.out.fault
 
--- the weight that it has, in thousandths
+-- the weight that the behaviour has after its updates, in thousandths
 abbrev pub weight_now : TurnSoFar → ℕ
 weight_now one = (params_at one.standing.block.spec one.standing.changes).weight
 
--- It is active: its step gave a function, its weight is above 0, and no behaviour raised a fault.
+-- A behaviour is active: its step gave a function, its weight is above 0, and no behaviour raised a fault. So one fault leaves no
+-- behaviour active.
 abbrev pub is_active_in : Bool → TurnSoFar → Bool
 is_active_in fault one = is_some one.out.func && nat_lt 0 (weight_now one) && not fault
 
--- the turn that it has
+-- the turn that a behaviour has
 abbrev pub turn_at : Seen → Bool → TurnSoFar → BhvTurn
 turn_at seen fault one = record { start = beginning_at seen one.standing.block.common; gave = is_active_in fault one; done = one.out.done }
 
@@ -120,7 +122,7 @@ turn_at seen fault one = record { start = beginning_at seen one.standing.block.c
 abbrev pub bhv_after : Seen → Bool → TurnSoFar → BhvSoFar
 bhv_after seen fault one = record one.standing { lived = one.standing.lived ++ turn_at seen fault one ∷ [] }
 
--- what its turn came to
+-- what a behaviour's turn came to
 abbrev pub outcome_at : Seen → Bool → TurnSoFar → Outcome
 outcome_at seen fault one = (turn_after one.standing.block.common (past_so_far one.standing) (turn_at seen fault one)).outcome
 

@@ -12,7 +12,7 @@ use Rattle.ivp_cert.specs.declared.claim.Decision.{Decision}
 use Rattle.ivp_cert.specs.Certificates.{best_decision}
 use Rattle.helm_core.specs.declared.showing.TurnShown.{TurnShown}
 
--- one is active
+-- a behaviour is active
 abbrev pub some_active : List TurnShown → Bool
 some_active showings = list_any (λ one. one.active) showings
 
@@ -42,11 +42,11 @@ pub record IsBestDecision (decision : Decision) : Type 0 where
   pub best : decision ≡ best_decision decision.problem
   pub point : IsTrue (is_point decision.problem.axes decision.claim.point)
 
--- the number that a point has on the axis at this place
+-- the number that a point has on the axis at this place; 0 without a place
 abbrev pub number_at : List Axis → Point → Option ℕ → ℤ
 number_at axes point None = pos 0
 number_at axes point (Some place) = value_on (slice_index_or axes place no_axis) (slice_index point.at place)
 
--- the number that a point has on the axis of this name
+-- the number that a point has on the axis of this name; 0 if there is none
 abbrev pub number_on : List Axis → List ℕ → Point → ℤ
 number_on axes name point = number_at axes point (position (λ axis. bytes_eq axis.name name) axes)

@@ -20,7 +20,7 @@ pub record IsAvoidOf (spec : Spec) (changes : List KindChange) (now : Spec) : Ty
   pub params : now ≡ params_at spec changes
   pub avoids : is_avoid now.shape ≡ true
 
--- It stands for these updates and steps, the latest first, of a behaviour with these parameters in its file.
+-- A doer stands for these updates and steps, the latest first, of a behaviour with these parameters in its file.
 abbrev pub IsDoerOf : Spec → List KindChange → Doer → Type 0
 IsDoerOf spec changes (Kind kind) = IsKindOf spec changes kind
 IsDoerOf spec changes (Avoid params) = IsAvoidOf spec changes params

@@ -13,6 +13,6 @@ use Rattle.helm_core.specs.Ticks.{Tick}
 abbrev pub CountsFromFirstRun : Type 0
 CountsFromFirstRun = (plan : Plan) (ticks : List Tick) (i place : ℕ) (one : BhvSoFar) → slice_get (list_at plan ticks i) place ≡ Some one → MayLast one.block.common → first_step one.changes ≡ first_run (past_so_far one)
 
--- One that may last no time was never stepped.
+-- Of every helm, before every iteration: a behaviour that may last no time was never stepped.
 abbrev pub NeverSteppedWithoutTime : Type 0
 NeverSteppedWithoutTime = (plan : Plan) (ticks : List Tick) (i place : ℕ) (one : BhvSoFar) → slice_get (list_at plan ticks i) place ≡ Some one → one.block.common.duration ≡ Some 0 → first_step one.changes ≡ None

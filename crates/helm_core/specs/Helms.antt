@@ -1,4 +1,4 @@
--- How a helm stands for the ticks that it has heard, and what one tick more does to it.
+-- How a helm stands for the ticks that it has heard, and what one more tick does to it.
 use Rattle.std.specs.Prelude.{◌≡◌, ℕ, List, [], ◌∷◌, ◌++◌, length, codes, option_map}
 use Rattle.moos_post.specs.declared.value.Pair.{Pair}
 use Rattle.moos_db.specs.declared.mail.Letter.{Letter}
@@ -53,8 +53,8 @@ pub record StandsFor (helm : Helm) (ticks : List Tick) : Type 0 where
   pub behavior_list : IsBehaviorListOf (clock_of helm) (list_before (plan_of helm) ticks (length ticks)) helm.behavior_list
   pub allstop : option_map allstop_text helm.allstop ≡ option_map (allstop_of (plan_of helm)) (past_iteration_before (plan_of helm) ticks (length ticks))
 
--- The helm has heard one tick more: of whichever ticks it stood for, it stands for them with this one behind, and the
--- answer is the iteration there.
+-- The helm has heard one more tick: of whichever ticks it stood for, it stands for them with this one behind, and the answer is
+-- the iteration there.
 pub record IsTicked (old new : Helm) (stamp : ℕ) (mail : List Letter) (iteration : Iteration) : Type 0 where
   pub plan : plan_of new ≡ plan_of old
   pub clock : clock_of new ≡ stamp

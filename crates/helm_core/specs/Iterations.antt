@@ -28,7 +28,7 @@ update_of name taken = record { name = name; how = how_taken taken }
 abbrev pub updates_of : TurnShown → List Update
 updates_of one = map (update_of one.name) one.taken
 
--- what a behaviour is
+-- a behaviour by its name and its state
 abbrev pub state_of : TurnShown → BhvNow
 state_of one = record { name = one.name; state = one.outcome.now }
 
@@ -40,7 +40,7 @@ error_of name fault = record { name = name; fault = fault }
 abbrev pub fault_of : TurnShown → Option BhvError
 fault_of one = option_map (error_of one.name) one.out.fault
 
--- those of these updates that the behaviour or the template of this block heard
+-- the updates among these that the behaviour or the template of this block heard
 abbrev pub heard_by_block : List Update → Block → List Update
 heard_by_block heard block = filter (λ update. bytes_eq update.name block.common.name) heard
 
@@ -48,7 +48,7 @@ heard_by_block heard block = filter (λ update. bytes_eq update.name block.commo
 abbrev pub all_updates : List Block → List Update → List TurnShown → List Update
 all_updates blocks answers showings = flat_map (heard_by_block (answers ++ flat_map updates_of showings)) blocks
 
--- what each behaviour is
+-- each behaviour by its name and its state
 abbrev pub all_states : List TurnShown → List BhvNow
 all_states showings = map state_of showings
 

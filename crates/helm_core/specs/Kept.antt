@@ -46,7 +46,7 @@ first_posts helm now showings =
     ++ (if are_declared_modes helm.modes then changed (codes "MODE") (said_before helm helm.helm_view.mode) now.mode else [])
     ++ flags_raised showings
 
--- what it posts, if an iteration says this of the behaviours
+-- what a helm posts, if an iteration says this of the behaviours
 abbrev pub posts_by : Helm → HelmView → List TurnShown → List Pair
 posts_by helm now showings =
     changed (codes "IVPHELM_STATE") (said_before helm (state_word helm.helm_view.parked)) (state_word now.parked)
@@ -61,7 +61,7 @@ pub record IsTurnedWith (blocks : List Block) (fault : Bool) (seen : Seen) (begu
   pub kept : AllZip (IsKept blocks seen.stamp) (filter stays (map (bhv_after seen fault) begun)) turned.kept.items
   pub showings : turned.showings.items ≡ map (showing_of seen fault) begun
 
--- it is what these turns came to
+-- what is kept and said at the end of an iteration is what these turns came to
 abbrev pub IsTurned : List Block → Seen → List TurnSoFar → TurnsEnded → Type 0
 IsTurned blocks seen begun turned = IsTurnedWith blocks (list_any has_fault begun) seen begun turned
 
@@ -82,14 +82,14 @@ HasHeardAndTurned behavior_list stamp letters now answers turned =
     (clock at : ℕ) (seen : Seen) (ones : List BhvSoFar) → clock ≤ stamp → Sees seen stamp letters now → IsBehaviorListOf clock ones behavior_list
     → IsHeardAndTurned behavior_list.axes behavior_list.blocks seen (spawned behavior_list.axes behavior_list.blocks at letters ones) answers turned
 
--- what holds of so many turns over these axes
+-- what holds of `count` turns over these axes
 pub record AreFit (axes : List Axis) (blocks : List Block) (count : ℕ) (turned : TurnsEnded) : Type 0 where
   pub few : length turned.kept.items ≤ count
   pub kept : All (IsFitKept axes blocks) turned.kept.items
   pub showings : length turned.showings.items ≡ count
   pub fit : All (IsFit axes) turned.showings.items
 
--- they are of at most 64 behaviours and templates
+-- what holds of the turns of at most 64 behaviours and templates over these axes
 pub record AreFewFit (axes : List Axis) (blocks : List Block) (turned : TurnsEnded) : Type 0 where
   pub count : ℕ
   pub few : AreFew blocks count

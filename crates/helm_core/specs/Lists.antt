@@ -9,7 +9,7 @@ use Rattle.helm_core.specs.Ticks.{Tick, seen_at}
 use Rattle.helm_core.specs.Behaviors.{BhvSoFar, Birth, all_after, all_begun, all_showings, past_so_far, unstarted}
 use Rattle.helm_core.specs.Templates.{Spawning, spawned}
 
--- it stays in the list: one that a letter made leaves it once it completed for good
+-- the behaviour stays in the list: one that a letter made leaves it once it completed for good
 abbrev pub stays : BhvSoFar → Bool
 stays one = not (is_some one.born && not (can_run one.block.common (past_so_far one)))
 
@@ -21,7 +21,7 @@ first_list blocks = map unstarted (filter (λ block. not (is_template block)) bl
 abbrev pub spawned_in : Plan → List Tick → ℕ → List BhvSoFar → Spawning
 spawned_in plan ticks i ones = spawned plan.axes plan.blocks i (seen_at plan.decls ticks i).letters ones
 
--- those of the list of iteration i that stay in it behind its turns
+-- the behaviours of the list of iteration i that stay in it behind its turns
 abbrev pub staying_after : Plan → List Tick → ℕ → List BhvSoFar → List BhvSoFar
 staying_after plan ticks i ones = filter stays (all_after (seen_at plan.decls ticks i) (all_begun plan.axes (seen_at plan.decls ticks i) ones))
 
@@ -30,7 +30,7 @@ abbrev pub list_before : Plan → List Tick → ℕ → List BhvSoFar
 list_before plan ticks zero = first_list plan.blocks
 list_before plan ticks (suc i) = staying_after plan ticks i (spawned_in plan ticks i (list_before plan ticks i)).ones
 
--- what the letters of iteration i to templates make of it
+-- what the letters of iteration i to templates make of the list before them
 abbrev pub spawned_at : Plan → List Tick → ℕ → Spawning
 spawned_at plan ticks i = spawned_in plan ticks i (list_before plan ticks i)
 
@@ -69,6 +69,6 @@ pub record IsListed (plan : Plan) (ones : List BhvSoFar) : Type 0 where
   pub in_order : AreMadeBehind None made
   pub staying : All (λ one. IsTrue (stays one)) made
 
--- Of every helm, whatever it hears, in every iteration.
+-- Of every helm, whatever it hears: its list in each iteration is as `IsListed` says.
 abbrev pub AlwaysListed : Type 0
 AlwaysListed = (plan : Plan) (ticks : List Tick) (i : ℕ) → IsListed plan (list_at plan ticks i)

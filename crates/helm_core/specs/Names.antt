@@ -28,12 +28,13 @@ ValidFilesNameOnce = (mission : Mission) (file : BhvFile) → IsValidFile file �
 abbrev pub clear_of : List ℕ → List ℕ
 clear_of contact = codes "avd_" ++ contact
 
--- So at most one has the name of the one that keeps clear of a contact.
+-- Of a valid behaviour file, whatever the helm hears: in each iteration at most one behaviour of the list has the name of the one
+-- that keeps clear of a contact.
 abbrev pub OneOfEachContact : Type 0
 OneOfEachContact = (mission : Mission) (file : BhvFile) → IsValidFile file → (ticks : List Tick) (i : ℕ) (contact : List ℕ) → count_named (clear_of contact) (list_at (plan_made mission file) ticks i) ≤ 1
 
--- One that a letter made and that isn't perpetual, and whose contact is clear for good after its updates: if it is stepped its
--- step is done, and behind its turn it leaves the list.
+-- A behaviour that a letter made and that isn't perpetual, and whose contact is clear for good after its updates: if it is
+-- stepped its step is done, and behind its turn it leaves the list.
 abbrev pub ResolvedLeave : Type 0
 ResolvedLeave = (axes : List Axis) (seen : Seen) (fault : Bool) (one : BhvSoFar) (avoidance : Avoidance) → is_some one.born ≡ true → one.block.common.perpetual ≡ false
     → (params_at one.block.spec (judged_at axes seen one).changes).shape ≡ AvoidCollision avoidance → avoidance.resolved ≡ true

@@ -26,7 +26,7 @@ plan_made mission file = record { axes = mission.domain; opening = file.opening;
 abbrev pub is_template : Block → Bool
 is_template block = block.common.template
 
--- the variables of the override, in both spellings, and of the position
+-- the variables of the override, in both spellings, and of position and depth
 abbrev pub always_read : List (List ℕ)
 always_read =
     codes "MOOS_MANUAL_OVERRIDE" ∷ codes "MOOS_MANUAL_OVERIDE" ∷ codes "NAV_X" ∷ codes "NAV_Y" ∷ codes "NAV_DEPTH" ∷ []

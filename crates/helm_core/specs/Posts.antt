@@ -33,11 +33,11 @@ state_text now = state_word now.seen.parked
 abbrev pub mentions_course : List TurnShown → Bool
 mentions_course showings = list_any (λ one. one.active && one.out.course) showings
 
--- one mentions speed
+-- an active behaviour's function mentions speed
 abbrev pub mentions_speed : List TurnShown → Bool
 mentions_speed showings = list_any (λ one. one.active && one.out.speed) showings
 
--- one mentions depth
+-- an active behaviour's function mentions depth
 abbrev pub mentions_depth : List TurnShown → Bool
 mentions_depth showings = list_any (λ one. one.active && one.out.depth) showings
 
@@ -60,12 +60,12 @@ allstop_by axes parked showings =
 abbrev pub allstop_of : Plan → PastIteration → List ℕ
 allstop_of plan now = allstop_by plan.axes now.seen.parked now.showings
 
--- a text is posted if none was before, and if it isn't the one before
+-- a text is posted unless it is the same as the one before
 abbrev pub changed : List ℕ → Option (List ℕ) → List ℕ → List Pair
 changed var None now = text_pair var now ∷ []
 changed var (Some before) now = if bytes_eq before now then [] else text_pair var now ∷ []
 
--- a text of each iteration is posted in the first one, and if it isn't that of the iteration before
+-- a text that each iteration has is posted in the first one, and in a later one unless it is the same as in the one before
 abbrev pub on_change : List ℕ → (PastIteration → List ℕ) → Option PastIteration → PastIteration → List Pair
 on_change var text before now = changed var (option_map text before) (text now)
 

@@ -50,7 +50,7 @@ abbrev pub are_good : List Axis → Spec → Option (List ℕ) → Bool
 are_good axes params None = true
 are_good axes params (Some pairs) = is_some (updated axes params pairs)
 
--- one update more, if there are pairs
+-- the updates and steps with one more update, if there are pairs
 abbrev pub with_said : List Axis → List KindChange → Option (List ℕ) → List KindChange
 with_said axes changes None = changes
 with_said axes changes (Some pairs) = Updated axes pairs ∷ changes
@@ -67,7 +67,7 @@ changed_by axes said one = record one { changes = with_said axes one.changes sai
 abbrev pub bears_name : List ℕ → BhvSoFar → Bool
 bears_name name one = bytes_eq one.name name
 
--- it was made of this template; of all blocks of the file only this one has its name
+-- the behaviour was made of this template; of all blocks of the file only this one has its name
 abbrev pub is_made_of : Block → BhvSoFar → Bool
 is_made_of template one = is_some one.born && bytes_eq one.block.common.name template.common.name
 
@@ -75,7 +75,7 @@ is_made_of template one = is_some one.born && bytes_eq one.block.common.name tem
 abbrev pub is_template_named : List ℕ → Block → Bool
 is_template_named name block = is_template block && bytes_eq block.common.name name
 
--- no template has this name, and templates and a list of so many are together below 64
+-- no template has this name, and the templates and a list of `count` behaviours are together below 64
 abbrev pub may_make : List Block → List ℕ → ℕ → Bool
 may_make blocks name count = not (list_any (is_template_named name) blocks) && nat_lt (count_by is_template blocks + count) 64
 
@@ -103,7 +103,7 @@ heard_known axes template so_far said place (Some one) =
     then answered template so_far (slice_set so_far.ones place (changed_by axes said one)) Changed
     else answered template so_far so_far.ones Refused
 
--- the same by the place in the list at which the name is, if it is there
+-- a letter with a name, by the place in the list of the behaviour that has the name, if one has it
 abbrev pub heard_at_place : List Axis → List Block → ℕ → Block → Spawning → NamedPairs → Option ℕ → Spawning
 heard_at_place axes blocks at template so_far said None = heard_new axes blocks at template so_far said
 heard_at_place axes blocks at template so_far said (Some place) = heard_known axes template so_far said place (slice_get so_far.ones place)

@@ -28,11 +28,11 @@ pairs_mailed mail = map (λ letter. pair_posted letter.post) mail
 abbrev pub stamp_of_last : List Tick → ℕ
 stamp_of_last ticks = fold (λ before tick. tick.stamp) 0 ticks
 
--- the stamp of iteration i
+-- the stamp of iteration i; 0 if there is none
 abbrev pub tick_stamp : List Tick → ℕ → ℕ
 tick_stamp ticks i = slice_index_or (map (λ tick. tick.stamp) ticks) i 0
 
--- the letters of iteration i
+-- the letters of iteration i; none if there is no such iteration
 abbrev pub heard_at : List Tick → ℕ → List Pair
 heard_at ticks i = slice_index_or (map (λ tick. pairs_mailed tick.mail) ticks) i []
 
@@ -44,7 +44,7 @@ heard_in_all ticks = flat_map (λ tick. pairs_mailed tick.mail) ticks
 abbrev pub learnt_at : List Tick → ℕ → List Pair
 learnt_at ticks i = heard_in_all (take (suc i) ticks)
 
--- the override has two spellings
+-- the variable is the override, in either spelling
 abbrev pub is_override : List ℕ → Bool
 is_override var = bytes_eq var (codes "MOOS_MANUAL_OVERRIDE") || bytes_eq var (codes "MOOS_MANUAL_OVERIDE")
 
@@ -52,12 +52,12 @@ is_override var = bytes_eq var (codes "MOOS_MANUAL_OVERRIDE") || bytes_eq var (c
 abbrev pub latest_override : List Pair → Option Value
 latest_override learnt = fold (λ latest pair. if is_override pair.var then Some pair.value else latest) None learnt
 
--- the value is the text `false`, without ASCII case
+-- the value is the text `false`, ignoring the case of ASCII letters
 abbrev pub is_false : Value → Bool
 is_false (Num number) = false
 is_false (Text text) = str_eq_ignore_ascii_case text (codes "false")
 
--- an override gives the vehicle to the helm if it is false; without one the helm hasn't got it
+-- the helm has the vehicle: the latest override is `false`; without an override it hasn't
 abbrev pub gives_way : Option Value → Bool
 gives_way None = false
 gives_way (Some value) = is_false value

@@ -1,5 +1,5 @@
--- What a point is worth to all behaviours of an iteration: each one's weight, in thousandths, times what it wants there, by the
--- formulas of its type. The sum of a decision's problem is this, and its best point is the first that none exceeds in it.
+-- What a point is worth to all behaviours of an iteration: each one's weight, in thousandths, times what its utility is worth
+-- there (`worth_at`). The sum of a decision's problem is this, and its best point is the first that none exceeds in it.
 use Rattle.std.specs.Prelude.{◌≡◌, ℕ, ◌*◌, ◌<◌, ◌≤◌, ◌⊎◌, Bool, true, false, IsTrue, IfSome, List, sum_by, Option, Some, None}
 use Rattle.ivp_domain.specs.declared.axis.Axis.{Axis}
 use Rattle.ivp_domain.specs.declared.boxes.Point.{Point}
@@ -38,7 +38,7 @@ times_worth axes point weight (Some utility) = weight * worth_at axes utility po
 abbrev pub worth_to : List Axis → Seen → Point → BhvSoFar → ℕ
 worth_to axes seen point one = times_worth axes point (params_at one.block.spec (judged_at axes seen one).changes).weight (wanted_at axes seen one)
 
--- and to all of them
+-- the priority-weighted worth of a point to all of these behaviours together
 abbrev pub worth_to_all : List Axis → Seen → List BhvSoFar → Point → ℕ
 worth_to_all axes seen ones point = sum_by (worth_to axes seen point) ones
 

@@ -1,13 +1,15 @@
 // The turn of a behaviour in an iteration.
-ghost use Rattle.std.specs.Prelude.{◌≡◌, ℕ, ◌<◌, ◌≤◌, List, ◌++◌, ◌&&◌, length, not, nat_lt, is_some, IfOk, OnOk};
+ghost use Rattle.std.specs.Prelude.{◌≡◌, ℕ, ◌<◌, ◌≤◌, List, [], ◌++◌, ◌&&◌, length, not, nat_lt, is_some, if◌then◌else◌, None, IfOk, OnOk};
 ghost use Rattle.bhv_file.specs.declared.file.Block.{Block};
+ghost use Rattle.helm_cond.specs.Infos.{knowledge_of};
 ghost use Rattle.ivp_domain.specs.declared.axis.Axis.{Axis};
 ghost use Rattle.bhv_life.specs.Outcomes.{flags_at, raised};
 ghost use Rattle.helm_core.specs.Behaviors.{TurnSoFar, BhvSoFar};
-ghost use Rattle.helm_core.specs.Standings.{BeginsTurn, IsBegun, IsEnded, IsFitBegun, IsFitEnded, IsKept, IsReady, Sees};
+ghost use Rattle.helm_core.specs.Standings.{BeginsTurn, HasJudgedAndStepped, IsBegun, IsEnded, IsFitBegun, IsFitEnded, IsKept, IsReady, Sees};
 ghost use Rattle.helm_core.specs.Ticks.{Seen, pairs_mailed};
 
 use crate::behavior::{Behavior, BoxedDoer};
+use crate::doer::Doer;
 use crate::helm_view::HelmView;
 use crate::judging::judge_own;
 use crate::posts::add_pairs;
@@ -15,7 +17,8 @@ use crate::showing::TurnShown;
 use crate::stepping::step_in;
 use bhv_file::Common;
 use bhv_kinds::Out;
-use bhv_life::{Outcome, Started};
+use bhv_life::{Outcome, Phase, Started};
+use helm_cond::Info;
 use ivp_domain::Domain;
 use moos_db::Letter;
 use moos_post::{Batch, Copied, List, Name, NoMemory};
@@ -59,19 +62,20 @@ pub(crate) fn begin<'a>(
     let started = kept
         .life
         .start(common, &now.info, now.mode.bytes(), now.parked, stamp);
+    let name = kept.name.copy(alloc)?;
     let mut doer = kept.doer.lent().copy(alloc)?;
-    let taken = judge_own(
+    let (taken, out) = lead(
         alloc,
         domain,
         kept.made,
         started.phase,
         &common.updates,
+        &now.info,
+        stamp,
         letters,
         &mut doer,
     )?;
-    let out = step_in(alloc, started.phase, domain, &now.info, stamp, &mut doer)?;
     let doer = BoxedDoer::of(alloc, doer)?;
-    let name = kept.name.copy(alloc)?;
     Ok(TurnBegun {
         name,
         block: kept.block,
@@ -84,12 +88,42 @@ pub(crate) fn begin<'a>(
     })
 }
 
+// Judges the updates of a behaviour, and then steps it, if its phase says so. Gives which were good, and what the step gave.
+fn lead(
+    alloc: Global,
+    domain: &Domain,
+    made: bool,
+    phase: Phase,
+    updates: &Option<Name>,
+    info: &Info,
+    stamp: u64,
+    letters: &[Letter],
+    doer: &mut Doer,
+) -> Result<(List<bool>, Out), NoMemory>
+    requires ready { IsReady domain.now doer.old }
+    ensures led { IfOk result (λ gave. HasJudgedAndStepped domain.now (if made then None else updates.now) phase (pairs_mailed letters.now) (knowledge_of info.now) stamp doer.old doer.new gave.0 gave.1) }
+{
+    let taken = judge_own(alloc, domain, made, phase, updates, letters, doer)?;
+    let out = step_in(alloc, phase, domain, info, stamp, doer)?;
+    Ok((taken, out))
+}
+
 impl<'a> TurnBegun<'a> {
     // Whether its step raised a fault.
     pub fn has_fault(&self) -> bool
         ensures { result ≡ is_some self.now.out.fault }
     {
         self.out.fault.is_some()
+    }
+
+    // What the iteration says of it beside what it has: its name, and the flags that this outcome raises.
+    fn told(&self, alloc: Global, outcome: Outcome) -> Result<(Name, Batch), NoMemory>
+        ensures name { IfOk result (λ told. told.0 ≡ self.now.name) }
+        ensures flags { IfOk result (λ told. told.1 ≡ flags_at self.now.common.now outcome) }
+    {
+        let name = self.name.copy(alloc)?;
+        let flags = flags_at(alloc, self.common, outcome)?;
+        Ok((name, flags))
     }
 
     // Ends the turn, by whether any behaviour raised a fault.
@@ -100,8 +134,7 @@ impl<'a> TurnBegun<'a> {
         let weight = self.doer.lent().weight();
         let active = is_active(&self.out, weight, fault);
         let (life, outcome) = self.started.finish(active, self.out.done);
-        let flags = flags_at(alloc, self.common, outcome)?;
-        let name = self.name.copy(alloc)?;
+        let (name, flags) = self.told(alloc, outcome)?;
         let stays = stays(self.made, life.can_run(self.common));
         Ok(TurnEnded {
             kept: Behavior {
@@ -145,12 +178,25 @@ fn flags_at(alloc: Global, common: &Common, outcome: Outcome) -> Result<Batch, N
     ensures { IfOk result (λ flags. flags ≡ flags_at common.now outcome) }
 {
     let mut flags = Batch::new(alloc);
-    raise(alloc, outcome.inactive, &common.inactiveflags, &mut flags)?;
-    raise(alloc, outcome.idle, &common.idleflags, &mut flags)?;
-    raise(alloc, outcome.run, &common.runflags, &mut flags)?;
-    raise(alloc, outcome.active, &common.activeflags, &mut flags)?;
-    raise(alloc, outcome.ended, &common.endflags, &mut flags)?;
+    raise_all(alloc, common, outcome, &mut flags)?;
     Ok(flags)
+}
+
+// Adds them to a list that is empty.
+fn raise_all(
+    alloc: Global,
+    common: &Common,
+    outcome: Outcome,
+    flags: &mut Batch,
+) -> Result<(), NoMemory>
+    requires { flags.old ≡ [] }
+    ensures { OnOk result (flags.new ≡ flags_at common.now outcome) }
+{
+    raise(alloc, outcome.inactive, &common.inactiveflags, flags)?;
+    raise(alloc, outcome.idle, &common.idleflags, flags)?;
+    raise(alloc, outcome.run, &common.runflags, flags)?;
+    raise(alloc, outcome.active, &common.activeflags, flags)?;
+    raise(alloc, outcome.ended, &common.endflags, flags)
 }
 
 // Adds flags, if they are raised.

@@ -5,9 +5,10 @@ ghost use Rattle.bhv_file.specs.Validity.{IsValidFile, serves};
 ghost use Rattle.mission_reader.specs.Validity.{IsValidMission};
 ghost use Rattle.ivp_domain.specs.Domains.{is_point};
 ghost use Rattle.helm_core.specs.Plans.{block_names, decl_names, plan_made, wants_of, with_wanted};
+ghost use Rattle.helm_core.specs.Iterations.{all_faults, all_states, all_updates};
 ghost use Rattle.helm_core.specs.Posts.{allstop_by, changed, desired, desired_speed};
 ghost use Rattle.helm_core.specs.Standings.{AreFew, IsFit, IsFitKept};
-ghost use Rattle.helm_core.specs.Helms.{allstop_text, clock_of, plan_of, HasLearnt, IsTicked, StandsFor};
+ghost use Rattle.helm_core.specs.Helms.{allstop_text, clock_of, plan_of, HasLearnt, IsHelmView, IsTicked, StandsFor};
 ghost use Rattle.helm_core.specs.Kept.{first_posts, IsIterationOfTurns, helm_after, iteration_by, said_before};
 ghost use Rattle.helm_core.specs.Ticks.{pairs_mailed};
 
@@ -17,7 +18,7 @@ use crate::behavior_list::BehaviorList;
 use crate::decided::Decided;
 use crate::decision::{add_depth, add_heading, add_speed, decision_made};
 use crate::helm_view::HelmView;
-use crate::iteration::{Iteration, Updates};
+use crate::iteration::{Faults, Iteration, States, Updates};
 use crate::own_names::OwnNames;
 use crate::posts::add_changed;
 use crate::showing::TurnShown;
@@ -30,7 +31,7 @@ use mission_reader::Mission;
 use mode_tree::ModeTree;
 use moos_db::{Letter, Mail};
 use moos_io::Gate;
-use moos_post::{Batch, Copied, NoMemory, Regs};
+use moos_post::{Batch, Copied, NoMemory, Regs, Txt};
 use std::alloc::Global;
 use std::mem;
 use std::sync::Wait;
@@ -52,6 +53,25 @@ pub struct Helm {
     decided: Decided,
 }
 
+// The names that the helm itself posts, and what it makes of no letters.
+fn names_and_view(alloc: Global, modes: &ModeTree) -> Result<(Box<OwnNames>, HelmView), NoMemory>
+    ensures { IfOk result (λ parts. IsHelmView modes.now [] parts.1) }
+{
+    let own = OwnNames::boxed(alloc)?;
+    let helm_view = HelmView::blank(alloc, modes)?;
+    Ok((own, helm_view))
+}
+
+// What an iteration tells before it decides: its parts but for the decision, with the posts so far.
+#[derive(Drop)]
+struct Told {
+    mode: Txt,
+    updates: Updates,
+    states: States,
+    faults: Faults,
+    posts: Batch,
+}
+
 impl Helm {
     /// The helm of a mission and its behaviour file, which has heard nothing. The mission's domain has the axes that the
     /// behaviours need. NoMemory is answered only if memory is missing.
@@ -68,10 +88,9 @@ impl Helm {
             blocks,
             ..
         } = file;
-        let own = OwnNames::boxed(alloc)?;
         let modes = ModeTree::make(decls);
-        let helm_view = HelmView::blank(alloc, &modes)?;
         let behavior_list = BehaviorList::make(alloc, mission.domain, blocks)?;
+        let (own, helm_view) = names_and_view(alloc, &modes)?;
         Ok(Helm {
             own,
             opening,
@@ -253,9 +272,7 @@ impl Helm {
         ensures { IfOk result (λ iteration. iteration ≡ iteration_by self.now stamp now.now answers showings.items) }
     {
         let all = showings.as_slice();
-        let mode = now.mode.copy(alloc)?;
-        let (updates, states, faults) = told_of(alloc, self.behavior_list.blocks(), answers, all)?;
-        let mut posts = self.first_posts(alloc, now, all)?;
+        let mut told = self.told(alloc, now, answers, all)?;
         let (course, speed, depth) = (
             mentions_course(all),
             mentions_speed(all),
@@ -263,15 +280,50 @@ impl Helm {
         );
         let domain = self.behavior_list.domain();
         let decision = decision_made(rt, alloc, domain, showings, decided, workers, gate)?;
-        self.add_decided(alloc, &mut posts, allstop, course, speed, depth, &decision)?;
+        self.add_decided(
+            alloc,
+            &mut told.posts,
+            allstop,
+            course,
+            speed,
+            depth,
+            &decision,
+        )?;
         Ok(Iteration {
             stamp,
             parked: now.parked,
+            mode: told.mode,
+            updates: told.updates,
+            states: told.states,
+            faults: told.faults,
+            decision,
+            posts: told.posts,
+        })
+    }
+
+    // What the iteration tells before it decides.
+    fn told(
+        &self,
+        alloc: Global,
+        now: &HelmView,
+        answers: Updates,
+        showings: &[TurnShown],
+    ) -> Result<Told, NoMemory>
+        ensures mode { IfOk result (λ told. told.mode ≡ now.now.mode) }
+        ensures updates { IfOk result (λ told. told.updates ≡ all_updates self.now.behavior_list.blocks answers showings.now) }
+        ensures states { IfOk result (λ told. told.states ≡ all_states showings.now) }
+        ensures faults { IfOk result (λ told. told.faults ≡ all_faults showings.now) }
+        ensures posts { IfOk result (λ told. told.posts ≡ first_posts self.now now.now showings.now) }
+    {
+        let mode = now.mode.copy(alloc)?;
+        let posts = self.first_posts(alloc, now, showings)?;
+        let blocks = self.behavior_list.blocks();
+        let (updates, states, faults) = told_of(alloc, blocks, answers, showings)?;
+        Ok(Told {
             mode,
             updates,
             states,
             faults,
-            decision,
             posts,
         })
     }

@@ -1,5 +1,5 @@
 // What one letter to a template makes or changes.
-ghost use Rattle.std.specs.Prelude.{◌≡◌, ℕ, ◌<◌, ◌&&◌, [], List, length, slice_get, Some, bytes_eq, position, true, IfOk};
+ghost use Rattle.std.specs.Prelude.{◌≡◌, ℕ, ◌<◌, ◌&&◌, [], List, length, slice_get, Some, bytes_eq, position, true, IfOk, IfSome, is_some};
 ghost use Rattle.std.specs.List.{AllZip, count_by, list_any};
 ghost use Rattle.bhv_file.specs.declared.file.Block.{Block};
 ghost use Rattle.bhv_file.specs.declared.spec.Spec.{Spec};
@@ -9,38 +9,40 @@ ghost use Rattle.bhv_kinds.specs.Changes.{KindChange, params_at};
 ghost use Rattle.bhv_life.specs.Standing.{IsLifeOf};
 ghost use Rattle.helm_core.specs.Plans.{is_template};
 ghost use Rattle.helm_core.specs.Standings.{AreFew, HasSpawned, HasAnswered, IsKept, MaySpawn, is_kept_called};
-ghost use Rattle.helm_core.specs.Templates.{Spawning, are_good, heard_known, heard_new, heard_said, is_template_named, may_make, with_said};
+ghost use Rattle.helm_core.specs.Templates.{Spawning, are_good, heard_known, heard_new, heard_said, is_template_named, may_make, said_by, with_said};
 
 use crate::behavior::{Behavior, BoxedDoer};
 use crate::doer::Doer;
 use crate::iteration::How;
-use crate::named::NamedPairs;
+use crate::named::{NamedPairs, said_by};
 use bhv_file::Block;
 use bhv_life::Life;
 use ivp_domain::Domain;
-use moos_post::{Copied, Name, NoMemory, Txt};
+use moos_post::{Copied, Name, NoMemory, Txt, Value};
 use std::alloc::Global;
 
-// A letter to the template at this place, which says this or nothing: what becomes of it.
+// A letter to the template at this place, which has this value: what becomes of it.
 pub(crate) fn hear_said(
     alloc: Global,
     domain: &Domain,
     blocks: &[Block],
     place: usize,
     template: &Block,
-    said: Option<NamedPairs>,
+    value: &Value,
     kept: &mut Vec<Behavior>,
 ) -> Result<How, NoMemory>
     requires at { slice_get blocks.now place ≡ Some template.now }
     requires may { MaySpawn blocks.now kept.old.items }
     ensures heard { IfOk result (λ how. (clock at : ℕ) (before : Spawning) → AllZip (IsKept blocks.now clock) before.ones kept.old.items
-        → HasAnswered blocks.now clock template.now before (heard_said domain.now blocks.now at template.now before said) kept.new.items how) }
+        → HasAnswered blocks.now clock template.now before (heard_said domain.now blocks.now at template.now before (said_by value.now)) kept.new.items how) }
     ensures more { IfOk result (λ _. HasSpawned domain.now blocks.now kept.old.items kept.new.items) }
 {
-    match said {
-        Some(said) => hear_named(alloc, domain, blocks, place, template, said, kept),
-        None => Ok(How::Refused),
-    }
+    let heard = said_by(alloc, value)?;
+    let Some(said) = heard else {
+        return Ok(How::Refused);
+    };
+    let how = hear_named(alloc, domain, blocks, place, template, &said, kept)?;
+    Ok(how)
 }
 
 // A letter with a name.
@@ -50,13 +52,13 @@ fn hear_named(
     blocks: &[Block],
     place: usize,
     template: &Block,
-    said: NamedPairs,
+    said: &NamedPairs,
     kept: &mut Vec<Behavior>,
 ) -> Result<How, NoMemory>
     requires at { slice_get blocks.now place ≡ Some template.now }
     requires may { MaySpawn blocks.now kept.old.items }
     ensures heard { IfOk result (λ how. (clock at : ℕ) (before : Spawning) → AllZip (IsKept blocks.now clock) before.ones kept.old.items
-        → HasAnswered blocks.now clock template.now before (heard_said domain.now blocks.now at template.now before (Some said)) kept.new.items how) }
+        → HasAnswered blocks.now clock template.now before (heard_said domain.now blocks.now at template.now before (Some said.now)) kept.new.items how) }
     ensures more { IfOk result (λ _. HasSpawned domain.now blocks.now kept.old.items kept.new.items) }
 {
     match place_of(kept.as_slice(), said.name.bytes()) {
@@ -85,28 +87,28 @@ fn hear_new(
     blocks: &[Block],
     place: usize,
     template: &Block,
-    said: NamedPairs,
+    said: &NamedPairs,
     kept: &mut Vec<Behavior>,
 ) -> Result<How, NoMemory>
     requires at { slice_get blocks.now place ≡ Some template.now }
     requires may { MaySpawn blocks.now kept.old.items }
     ensures heard { IfOk result (λ how. (clock at : ℕ) (before : Spawning) → AllZip (IsKept blocks.now clock) before.ones kept.old.items
-        → HasAnswered blocks.now clock template.now before (heard_new domain.now blocks.now at template.now before said) kept.new.items how) }
+        → HasAnswered blocks.now clock template.now before (heard_new domain.now blocks.now at template.now before said.now) kept.new.items how) }
     ensures more { IfOk result (λ _. HasSpawned domain.now blocks.now kept.old.items kept.new.items) }
 {
     if !may_make(blocks, said.name.bytes(), kept.as_slice()) {
         return Ok(How::Refused);
     }
     let spec = template.spec.copy(alloc)?;
-    let mut doer = Doer::make(spec);
-    let good = take_pairs(alloc, domain, &mut doer, &said.pairs)?;
-    if !good {
+    let blank = Doer::make(spec);
+    let taken = doer_with(alloc, domain, blank, &said.pairs)?;
+    let Some(doer) = taken else {
         return Ok(How::Refused);
-    }
-    let doer = BoxedDoer::of(alloc, doer)?;
+    };
+    let one = made(alloc, &said.name, place, doer)?;
+    kept.push(one)?;
     let name = said.name.copy(alloc)?;
-    kept.push(made(name, place, doer))?;
-    Ok(How::Spawned(said.name))
+    Ok(How::Spawned(name))
 }
 
 // Whether a behaviour of this name may be made beside these.
@@ -139,20 +141,39 @@ fn templates(blocks: &[Block]) -> usize
 }
 
 // What is kept of a behaviour that a letter makes of the block at this place.
-fn made(name: Name, block: usize, doer: BoxedDoer) -> Behavior
-    ensures named { result.name ≡ name }
-    ensures of { result.block ≡ block }
-    ensures by_letter { result.made ≡ true }
-    ensures doer { result.doer ≡ doer }
-    ensures fresh { (common : Common) → IsLifeOf common [] result.life }
+fn made(alloc: Global, name: &Name, block: usize, doer: BoxedDoer) -> Result<Behavior, NoMemory>
+    ensures named { IfOk result (λ one. one.name ≡ name.now) }
+    ensures of { IfOk result (λ one. one.block ≡ block) }
+    ensures by_letter { IfOk result (λ one. one.made ≡ true) }
+    ensures doer { IfOk result (λ one. one.doer ≡ doer) }
+    ensures fresh { IfOk result (λ one. (common : Common) → IsLifeOf common [] one.life) }
 {
-    Behavior {
+    let name = name.copy(alloc)?;
+    Ok(Behavior {
         name,
         block,
         made: true,
         doer,
         life: Life::make(),
+    })
+}
+
+// The doer with these pairs too, if there are some, or None if they aren't good as a whole.
+fn doer_with(
+    alloc: Global,
+    domain: &Domain,
+    doer: Doer,
+    pairs: &Option<Txt>,
+) -> Result<Option<BoxedDoer>, NoMemory>
+    ensures good { IfOk result (λ taken. (spec : Spec) (changes : List KindChange) → IsDoerOf spec changes doer → is_some taken ≡ are_good domain.now (params_at spec changes) pairs.now) }
+    ensures stands { IfOk result (λ taken. IfSome taken (λ after. (spec : Spec) (changes : List KindChange) → IsDoerOf spec changes doer → IsDoerOf spec (with_said domain.now changes pairs.now) after)) }
+{
+    let mut after = doer;
+    if !take_pairs(alloc, domain, &mut after, pairs)? {
+        return Ok(None);
     }
+    let boxed = BoxedDoer::of(alloc, after)?;
+    Ok(Some(boxed))
 }
 
 // Takes pairs, if there are some. False exactly if they aren't good as a whole.
@@ -180,26 +201,26 @@ fn hear_known(
     domain: &Domain,
     blocks: &[Block],
     template: &Block,
-    said: NamedPairs,
+    said: &NamedPairs,
     place: usize,
     kept: &mut Vec<Behavior>,
 ) -> Result<How, NoMemory>
     requires place { place < length kept.old.items }
     requires may { MaySpawn blocks.now kept.old.items }
     ensures heard { IfOk result (λ how. (clock : ℕ) (before : Spawning) → AllZip (IsKept blocks.now clock) before.ones kept.old.items
-        → HasAnswered blocks.now clock template.now before (heard_known domain.now template.now before said place (slice_get before.ones place)) kept.new.items how) }
+        → HasAnswered blocks.now clock template.now before (heard_known domain.now template.now before said.now place (slice_get before.ones place)) kept.new.items how) }
     ensures more { IfOk result (λ _. HasSpawned domain.now blocks.now kept.old.items kept.new.items) }
 {
     let one = &kept[place];
     if !is_made_of(blocks, template, one) {
         return Ok(How::Refused);
     }
-    let mut doer = one.doer.lent().copy(alloc)?;
-    let good = take_pairs(alloc, domain, &mut doer, &said.pairs)?;
-    if !good {
+    let before = one.doer.lent().copy(alloc)?;
+    let taken = doer_with(alloc, domain, before, &said.pairs)?;
+    let Some(doer) = taken else {
         return Ok(How::Refused);
-    }
-    kept[place].doer = BoxedDoer::of(alloc, doer)?;
+    };
+    kept[place].doer = doer;
     Ok(How::Changed)
 }
 

@@ -40,6 +40,26 @@ pub(crate) fn name_of(alloc: Global, bytes: &[u8]) -> Result<Name, NoMemory>
     Ok(name)
 }
 
+// The names that are spelled so.
+fn three_names(
+    alloc: Global,
+    first: &[u8],
+    second: &[u8],
+    third: &[u8],
+) -> Result<(Name, Name, Name), NoMemory>
+    requires first { IsTrue (is_name first.now) }
+    requires second { IsTrue (is_name second.now) }
+    requires third { IsTrue (is_name third.now) }
+    ensures first { IfOk result (λ names. names.0 ≡ first.now) }
+    ensures second { IfOk result (λ names. names.1 ≡ second.now) }
+    ensures third { IfOk result (λ names. names.2 ≡ third.now) }
+{
+    let one = name_of(alloc, first)?;
+    let other = name_of(alloc, second)?;
+    let last = name_of(alloc, third)?;
+    Ok((one, other, last))
+}
+
 impl OwnNames {
     // The names on the heap, so that moving a helm doesn't move them.
     pub fn boxed(alloc: Global) -> Result<Box<OwnNames>, NoMemory> {
@@ -48,12 +68,18 @@ impl OwnNames {
     }
 
     fn make(alloc: Global) -> Result<OwnNames, NoMemory> {
-        let state = name_of(alloc, b"IVPHELM_STATE")?;
-        let mode = name_of(alloc, b"MODE")?;
-        let heading = name_of(alloc, b"DESIRED_HEADING")?;
-        let speed = name_of(alloc, b"DESIRED_SPEED")?;
-        let depth = name_of(alloc, b"DESIRED_DEPTH")?;
-        let allstop = name_of(alloc, b"IVPHELM_ALLSTOP")?;
+        let (state, mode, allstop) = three_names(
+            alloc,
+            b"IVPHELM_STATE",
+            b"MODE",
+            b"IVPHELM_ALLSTOP",
+        )?;
+        let (heading, speed, depth) = three_names(
+            alloc,
+            b"DESIRED_HEADING",
+            b"DESIRED_SPEED",
+            b"DESIRED_DEPTH",
+        )?;
         Ok(OwnNames {
             state,
             mode,

@@ -14,7 +14,6 @@ use crate::behavior::Behavior;
 use crate::iteration::{Update, Updates};
 use crate::judging::is_for;
 use crate::making::{hear_said, is_template};
-use crate::named::said_by;
 use bhv_file::Block;
 use ivp_domain::Domain;
 use moos_db::Letter;
@@ -133,9 +132,9 @@ fn hear(
     if !is_for(&template.common.updates, &letter.post.var) {
         return Ok(());
     }
-    let said = said_by(alloc, &letter.post.value)?;
-    let how = hear_said(alloc, domain, blocks, place, template, said, kept)?;
+    let value = &letter.post.value;
     let name = template.common.name.copy(alloc)?;
+    let how = hear_said(alloc, domain, blocks, place, template, value, kept)?;
     answers.add(Update { name, how })?;
     Ok(())
 }

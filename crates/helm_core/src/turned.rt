@@ -8,7 +8,7 @@ ghost use Rattle.helm_core.specs.Kept.{IsTurned, IsTurnedWith, AreFit};
 ghost use Rattle.helm_core.specs.Standings.{IsBegun, IsFitBegun, raised_fault};
 ghost use Rattle.helm_core.specs.Ticks.{Seen};
 
-use crate::begun::TurnBegun;
+use crate::begun::{TurnBegun, TurnEnded};
 use crate::behavior::Behavior;
 use crate::showing::TurnShown;
 use moos_post::NoMemory;
@@ -46,14 +46,31 @@ fn finish_each(
     ensures turned { IfOk result (λ turned. (blocks : List Block) (seen : Seen) (ones : List TurnSoFar) → AllZip (IsBegun blocks seen) ones begun.entry.items → IsTurnedWith blocks fault seen ones turned) }
     ensures fit { IfOk result (λ turned. (axes : List Axis) (blocks : List Block) → All (IsFitBegun axes blocks) begun.entry.items → AreFit axes blocks (length begun.entry.items) turned) }
 {
-    let mut kept = Vec::with_capacity(alloc, begun.len())?;
-    let mut showings = Vec::with_capacity(alloc, begun.len())?;
+    let mut turned = none_ended(alloc, begun.len())?;
     for one in begun {
         let ended = one.finish(alloc, fault)?;
-        keep(&mut kept, ended.kept, ended.stays)?;
-        showings.push(ended.showing)?;
+        add(&mut turned, ended)?;
     }
+    Ok(turned)
+}
+
+// Before the first turn has ended, with room for so many.
+fn none_ended(alloc: Global, count: usize) -> Result<TurnsEnded, NoMemory>
+    ensures kept { IfOk result (λ turned. turned.kept.items ≡ []) }
+    ensures showings { IfOk result (λ turned. turned.showings.items ≡ []) }
+{
+    let kept = Vec::with_capacity(alloc, count)?;
+    let showings = Vec::with_capacity(alloc, count)?;
     Ok(TurnsEnded { kept, showings })
+}
+
+// Adds what a turn came to.
+fn add(turned: &mut TurnsEnded, ended: TurnEnded) -> Result<(), NoMemory>
+    ensures kept { OnOk result (turned.new.kept.items ≡ turned.old.kept.items ++ (if ended.stays then ended.kept ∷ [] else [])) }
+    ensures showings { OnOk result (turned.new.showings.items ≡ turned.old.showings.items ++ ended.showing ∷ []) }
+{
+    turned.showings.push(ended.showing)?;
+    keep(&mut turned.kept, ended.kept, ended.stays)
 }
 
 // Keeps a behaviour, if it stays in the list.

@@ -10,10 +10,10 @@ loop-one-init c =
     let gives : into_iter_items c.into_iter-one-iterator.result ≡ c.args.begun.items = c.into_iter-one-iterator.ensures.into_iter_gives.0 in
     record {
       counted = search rules;
-      turned = λ blocks seen ones all. ended_first blocks seen c.args.fault ones _ _ _ c.in_ok-kept.ensures.items c.in_ok-showings.ensures.items (subst (AllZip (IsBegun blocks seen) ones) (sym gives) all);
-      fit = λ axes blocks all. fit_first axes blocks _ _ _ c.in_ok-kept.ensures.items c.in_ok-showings.ensures.items (subst (All (IsFitBegun axes blocks)) (sym gives) all);
-      kept_few = let each = length_first _ _ _ c.in_ok-kept.ensures.items gives in omega arith;
-      shown_each = length_first _ _ _ c.in_ok-showings.ensures.items gives;
+      turned = λ blocks seen ones all. ended_first blocks seen c.args.fault ones _ _ _ c.in_ok-turned.ensures.kept c.in_ok-turned.ensures.showings (subst (AllZip (IsBegun blocks seen) ones) (sym gives) all);
+      fit = λ axes blocks all. fit_first axes blocks _ _ _ c.in_ok-turned.ensures.kept c.in_ok-turned.ensures.showings (subst (All (IsFitBegun axes blocks)) (sym gives) all);
+      kept_few = let each = length_first _ _ _ c.in_ok-turned.ensures.kept gives in omega arith;
+      shown_each = length_first _ _ _ c.in_ok-turned.ensures.showings gives;
     }
 
 pub loop-one-preserved : goal.loop-one-preserved
@@ -25,13 +25,13 @@ loop-one-preserved c =
     record {
       counted = let was = at.invariant.counted in let gone = c.in-Some.ensures.steps.1 in let short = ap length steps in omega arith;
       turned = λ blocks seen ones all.
-          ended_next blocks seen c.args.fault ones at.kept.items _ at.showings.items _ x (into_iter_items at.one-iterator) left c.in_ok-ended.ended (c.in_ok-ended.ensures.ends blocks seen) steps
-          c.in_ok-keep.ensures c.in_ok-push.ensures.items (at.invariant.turned blocks seen ones all);
+          ended_next blocks seen c.args.fault ones at.turned.kept.items _ at.turned.showings.items _ x (into_iter_items at.one-iterator) left c.in_ok-ended.ended (c.in_ok-ended.ensures.ends blocks seen) steps
+          c.in_ok-add.ensures.kept c.in_ok-add.ensures.showings (at.invariant.turned blocks seen ones all);
       fit = λ axes blocks all.
-          fit_next axes blocks at.kept.items _ at.showings.items _ x (into_iter_items at.one-iterator) left c.in_ok-ended.ended (c.in_ok-ended.ensures.fit axes blocks) steps
-          c.in_ok-keep.ensures c.in_ok-push.ensures.items (at.invariant.fit axes blocks all);
-      kept_few = length_staying at.kept.items _ c.in_ok-ended.ended.stays c.in_ok-ended.ended.kept (into_iter_items at.one-iterator) left x _ steps c.in_ok-keep.ensures at.invariant.kept_few;
-      shown_each = length_next at.showings.items _ _ (into_iter_items at.one-iterator) left x _ steps c.in_ok-push.ensures.items at.invariant.shown_each;
+          fit_next axes blocks at.turned.kept.items _ at.turned.showings.items _ x (into_iter_items at.one-iterator) left c.in_ok-ended.ended (c.in_ok-ended.ensures.fit axes blocks) steps
+          c.in_ok-add.ensures.kept c.in_ok-add.ensures.showings (at.invariant.fit axes blocks all);
+      kept_few = length_staying at.turned.kept.items _ c.in_ok-ended.ended.stays c.in_ok-ended.ended.kept (into_iter_items at.one-iterator) left x _ steps c.in_ok-add.ensures.kept at.invariant.kept_few;
+      shown_each = length_next at.turned.showings.items _ _ (into_iter_items at.one-iterator) left x _ steps c.in_ok-add.ensures.showings at.invariant.shown_each;
     }
 
 pub returns : goal.returns
@@ -42,7 +42,7 @@ returns c =
     let gone : length (into_iter_items at.one-iterator) ≡ 0 = ap length empty in
     record {
       turned = λ blocks seen ones all.
-          let is = ended_all blocks seen c.args.fault ones at.kept.items at.showings.items _ empty (at.invariant.turned blocks seen ones all) in
+          let is = ended_all blocks seen c.args.fault ones at.turned.kept.items at.turned.showings.items _ empty (at.invariant.turned blocks seen ones all) in
           record { kept = is.kept_all; showings = is.said };
       fit = λ axes blocks all.
           let is = at.invariant.fit axes blocks all in

@@ -13,8 +13,8 @@ use Rattle.helm_core.proofs.turned.finish_each.Given as goal
 abbrev pub invariant-loop-one : goal.invariant-loop-one
 invariant-loop-one l = record {
   counted : into_iter_len l.one-iterator ≡ length (into_iter_items l.one-iterator);
-  turned : (blocks : List Block) (seen : Seen) (ones : List TurnSoFar) → AllZip (IsBegun blocks seen) ones l.fn.begun.items → HasEnded blocks seen l.fault ones l.kept.items l.showings.items (into_iter_items l.one-iterator);
-  fit : (axes : List Axis) (blocks : List Block) → All (IsFitBegun axes blocks) l.fn.begun.items → AreFitSoFar axes blocks l.kept.items l.showings.items (into_iter_items l.one-iterator);
-  kept_few : length l.kept.items + length (into_iter_items l.one-iterator) ≤ length l.fn.begun.items;
-  shown_each : length l.showings.items + length (into_iter_items l.one-iterator) ≡ length l.fn.begun.items;
+  turned : (blocks : List Block) (seen : Seen) (ones : List TurnSoFar) → AllZip (IsBegun blocks seen) ones l.fn.begun.items → HasEnded blocks seen l.fault ones l.turned.kept.items l.turned.showings.items (into_iter_items l.one-iterator);
+  fit : (axes : List Axis) (blocks : List Block) → All (IsFitBegun axes blocks) l.fn.begun.items → AreFitSoFar axes blocks l.turned.kept.items l.turned.showings.items (into_iter_items l.one-iterator);
+  kept_few : length l.turned.kept.items + length (into_iter_items l.one-iterator) ≤ length l.fn.begun.items;
+  shown_each : length l.turned.showings.items + length (into_iter_items l.one-iterator) ≡ length l.fn.begun.items;
 }

@@ -5,9 +5,9 @@ use Rattle.helm_core.proofs.begun.TurnBegun.finish.Goals as goal
 
 pub returns-clause-ends : goal.returns-clause-ends
 returns-clause-ends c blocks seen one is =
-    ends blocks seen c.args.fault one c.args.self c.weight-weight.result c.is_active-active.result c.finish.result.0 c.finish.result.1 c.in_ok-flags.flags c.in_ok-name.name c.can_run.result c.stays-stays.result is
+    ends blocks seen c.args.fault one c.args.self c.weight-weight.result c.is_active-active.result c.finish.result.0 c.finish.result.1 c.in_ok-name.flags c.in_ok-name.name c.can_run.result c.stays-stays.result is
     (λ spec changes stands. c.weight-weight.ensures.weight spec changes (subst (IsDoerOf spec changes) (sym c.lent.ensures) stands))
-    c.is_active-active.ensures c.finish.ensures.life c.finish.ensures.outcome c.in_ok-flags.ensures c.in_ok-name.ensures c.can_run.ensures c.stays-stays.ensures
+    c.is_active-active.ensures c.finish.ensures.life c.finish.ensures.outcome c.in_ok-name.ensures.flags c.in_ok-name.ensures.name c.can_run.ensures c.stays-stays.ensures
 
 pub returns-clause-fit : goal.returns-clause-fit
 returns-clause-fit c axes blocks fit = record {

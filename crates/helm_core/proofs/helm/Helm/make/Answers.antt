@@ -20,7 +20,7 @@ returns-clause-plan c = same_plan _ c.args.file.opening _ _ _ _ _ c.in_ok-behavi
 pub returns-clause-stands : goal.returns-clause-stands
 returns-clause-stands c = record {
   clock = refl;
-  helm_view = subst (λ decls. IsHelmView decls [] c.in_ok-helm_view.helm_view) refl c.in_ok-helm_view.ensures;
+  helm_view = subst (λ decls. IsHelmView decls [] c.in_ok-own.helm_view) refl c.in_ok-own.ensures;
   behavior_list = subst (λ (blocks : List Block). IsBehaviorListOf 0 (first_list blocks) c.in_ok-behavior_list.behavior_list) (sym c.in_ok-behavior_list.ensures.blocks) c.in_ok-behavior_list.ensures.stands;
   allstop = refl;
 }
