@@ -14,7 +14,7 @@ use Rattle.moos_post.specs.declared.entry.Entry.{Entry}
 use Rattle.moos_lawful.proofs.Stepping.{line_moment, race_rises, turns_rise}
 use Rattle.moos_lawful.proofs.Rising.{lower}
 use Rattle.moos_lawful.proofs.Parts.{either}
-use Rattle.moos_lawful.specs.Schedules.{due_in, rises}
+use Rattle.moos_lawful.specs.Schedules.{due_in, never_falls}
 use Rattle.moos_lawful.specs.Answering.{answers_of, moment_in, openings, turns_from}
 use Rattle.helm_core.specs.Ticks.{Tick}
 use Rattle.std.proofs.Math.Nat.{mul-le-mul}
@@ -40,7 +40,7 @@ use Rattle.script_reader.specs.declared.script.Script.{Script}
 use Rattle.script_reader.specs.Validity.{are_lines, IsValid, keeps_limits}
 
 -- a client's lines have later and later moments
-lines_rise : (clients others n last stop : ℕ) (lines : List Entry) → are_lines clients last stop lines ≡ true → rises (suc others * last) (map (moment_in Stamp clients others) (entries_of n lines)) ≡ true
+lines_rise : (clients others n last stop : ℕ) (lines : List Entry) → are_lines clients last stop lines ≡ true → never_falls (suc others * last) (map (moment_in Stamp clients others) (entries_of n lines)) ≡ true
 lines_rise clients others n last stop [] valid = refl
 lines_rise clients others n last stop (line ∷ lines) valid =
     let tests = line_tests (nat_lt line.client clients) (nat_le last line.stamp) (keeps_limits line.call) (are_lines clients line.stamp stop lines) valid in
@@ -54,10 +54,10 @@ lines_rise clients others n last stop (line ∷ lines) valid =
     more : last ≤ line.stamp → suc others * last ≤ suc others * line.stamp
     more less = let factor : suc others ≤ suc others = omega arith in mul-le-mul factor less
 
-    by : (b : Bool) → m ≡ suc others * line.stamp → suc others * last ≤ suc others * line.stamp → rises (suc others * line.stamp) (map (moment_in Stamp clients others) (entries_of n lines)) ≡ true
-        → rises (suc others * last) (map (moment_in Stamp clients others) (cond b (line ∷ entries_of n lines) (entries_of n lines))) ≡ true
+    by : (b : Bool) → m ≡ suc others * line.stamp → suc others * last ≤ suc others * line.stamp → never_falls (suc others * line.stamp) (map (moment_in Stamp clients others) (entries_of n lines)) ≡ true
+        → never_falls (suc others * last) (map (moment_in Stamp clients others) (cond b (line ∷ entries_of n lines) (entries_of n lines))) ≡ true
     by true is less rest =
-        and_from (nat_le (suc others * last) m) (rises m (map (moment_in Stamp clients others) (entries_of n lines))) (grind (arith, nat_tests, is, less)) (subst (λ m. rises m (map (moment_in Stamp clients others) (entries_of n lines)) ≡ true) (sym is) rest)
+        and_from (nat_le (suc others * last) m) (never_falls m (map (moment_in Stamp clients others) (entries_of n lines))) (grind (arith, nat_tests, is, less)) (subst (λ m. never_falls m (map (moment_in Stamp clients others) (entries_of n lines)) ≡ true) (sym is) rest)
     by false is less rest = lower (suc others * last) (suc others * line.stamp) (map (moment_in Stamp clients others) (entries_of n lines)) less rest
 
 -- a helm hears nothing at its opening
@@ -144,12 +144,12 @@ start_under order script lock helm_client first valid seats so stands = record {
             empty [] none = refl
             empty (x ∷ xs) none = absurd cc
 
-    moments : (o : Order) (n : ℕ) → n < parts script helm_client → (b : Bool) → rises 0 (map (moment_in o clients (length (answerers (helm_of helm_client)))) (cond b (entries_of n script.lines) (turns_left script.stop helm_client lock.base first.seen))) ≡ true
+    moments : (o : Order) (n : ℕ) → n < parts script helm_client → (b : Bool) → never_falls 0 (map (moment_in o clients (length (answerers (helm_of helm_client)))) (cond b (entries_of n script.lines) (turns_left script.stop helm_client lock.base first.seen))) ≡ true
     moments Race n below b = race_rises clients (length (answerers (helm_of helm_client))) (cond b (entries_of n script.lines) (turns_left script.stop helm_client lock.base first.seen))
-    moments Stamp n below true = subst (λ low. rises low (map (moment_in Stamp clients (length (answerers (helm_of helm_client)))) (entries_of n script.lines)) ≡ true) (omega arith) (lines_rise clients (length (answerers (helm_of helm_client))) n 0 script.stop script.lines valid)
+    moments Stamp n below true = subst (λ low. never_falls low (map (moment_in Stamp clients (length (answerers (helm_of helm_client)))) (entries_of n script.lines)) ≡ true) (omega arith) (lines_rise clients (length (answerers (helm_of helm_client))) n 0 script.stop script.lines valid)
     moments Stamp n below false = turns helm_client
       where
-        turns : (s : Option HelmClient) → rises 0 (map (moment_in Stamp clients (length (answerers (helm_of s)))) (turns_left script.stop s lock.base first.seen)) ≡ true
+        turns : (s : Option HelmClient) → never_falls 0 (map (moment_in Stamp clients (length (answerers (helm_of s)))) (turns_left script.stop s lock.base first.seen)) ≡ true
         turns None = refl
         turns (Some t) = turns_rise (answering (helm_setup_of t)) clients 1 t.number t.period (heard_of lock.base t.number first.seen) t.ticks (ticks_to script.stop (helm_setup_of t) - t.ticks) 0 (omega arith)
 

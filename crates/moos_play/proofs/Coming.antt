@@ -12,7 +12,7 @@ use Rattle.moos_client.specs.Hearing.{heard_in}
 use Rattle.moos_client.proofs.Hearing.{heard_append, heard_on}
 use Rattle.moos_client.proofs.Histories.{only_own, own_rest}
 use Rattle.moos_lawful.specs.Answering.{moment_in, turns_from}
-use Rattle.moos_lawful.specs.Schedules.{clients_below, due_in, IsLawfulSoFar, rises}
+use Rattle.moos_lawful.specs.Schedules.{clients_below, due_in, IsLawfulSoFar, never_falls}
 use Rattle.moos_lawful.proofs.Stepping.{KeepsMoment, left_by, turn_moment, turns_rise}
 use Rattle.moos_step.proofs.Growing.{grown}
 use Rattle.moos_step.proofs.Steps.{none_past}
@@ -271,7 +271,7 @@ module _ (order : Order) (script : Script) (lock : CommunityLock) (valid : are_l
     -- a tick where no line is left of its stamp or before
     tick_keeps : (o : Order) (old : HelmClient) (from : ℕ) (history later : History) (so : IsLawfulSoFar (schedule_with o script (Some (helm_setup_of old)) lock.base) history) (heard : List Tick) (left : List Entry) → ((n : ℕ) → n < length script.names + 1 → so.left n ≡ left_for script (Some old) lock.base from history n)
         → old.number ≡ length script.names → old.ticks < ticks_to script.stop (helm_setup_of old) → IsBehind (Some (old.ticks * old.period)) (drop from script.lines) → ((n : ℕ) → n < length script.names → entries_of n later ≡ []) → Begins (tick_entries (helm_setup_of old) heard old.ticks) later
-        → rises (2 * (old.ticks * old.period) + (suc old.number - length script.names)) (map (moment_in Stamp (length script.names) 1) left) ≡ true
+        → never_falls (2 * (old.ticks * old.period) + (suc old.number - length script.names)) (map (moment_in Stamp (length script.names) 1) left) ≡ true
         → KeepsMoment script.lines (length script.names) script.stop old.period (answerers (Some (helm_setup_of old))) (length lock.base) (mailed_in lock.base) o so.rest later (left_by (length script.names) (λ n. []) (drop from script.lines) (λ n. left))
     tick_keeps Race old from history later so heard left is number more behind alone begins late = tt
     tick_keeps Stamp old from history later so heard left is number more behind alone begins late =
@@ -283,7 +283,7 @@ module _ (order : Order) (script : Script) (lock : CommunityLock) (valid : are_l
         (all_end (λ line. nat_lt line.client (length script.names)) script.lines from (lines_clients (length script.names) 0 script.stop script.lines valid))
         (behind_late (length script.names) 0 script.stop script.lines from (old.ticks * old.period) valid behind)
         (subst (λ n. list_all (λ k. k == 2 * (old.ticks * old.period) + (suc n - length script.names)) (map (moment_in Stamp (length script.names) 1) later) ≡ true) number (front_one (length script.names) (helm_setup_of old) heard old.ticks later begins))
-        (λ n past under. subst (λ n. rises (2 * (old.ticks * old.period) + (suc n - length script.names)) (map (moment_in Stamp (length script.names) 1) left) ≡ true) number late)
+        (λ n past under. subst (λ n. never_falls (2 * (old.ticks * old.period) + (suc n - length script.names)) (map (moment_in Stamp (length script.names) 1) left) ≡ true) number late)
       where
         past : nat_lt (length script.names) (length script.names) ≡ false
         past = grind (arith, nat_tests)
@@ -322,7 +322,7 @@ module _ (order : Order) (script : Script) (lock : CommunityLock) (valid : are_l
         helm_cut old from from new.ticks (old.ticks + 1) [] first after under on.later (λ n. []) (λ n other. sym (append-nil (entries_of n on.later.0) ∙ alone n other)) refl refl stopped (omega (arith, more))
         (λ left is. tick_keeps order old from first.seen on.later.0 under.played.so_far (heard_of lock.base old.number (first.seen ++ on.later.0)) left under.played.left under.steered.0 more behind (λ n less. alone n (λ is. absurd (omega (arith, is, less))))
         (begun_front lock.base (helm_setup_of old) old.ticks first.seen on.later.0 stopped.left begun)
-        (subst (λ left. rises (2 * (old.ticks * old.period) + (suc old.number - length script.names)) (map (moment_in Stamp (length script.names) 1) left) ≡ true) (sym is)
+        (subst (λ left. never_falls (2 * (old.ticks * old.period) + (suc old.number - length script.names)) (map (moment_in Stamp (length script.names) 1) left) ≡ true) (sym is)
         (left_late (length script.names) lock.base (helm_setup_of old) old.ticks new.ticks (ticks_to script.stop (helm_setup_of old) - length (heard_of lock.base old.number (first.seen ++ on.later.0))) first.seen on.later.0 stopped begun
         (omega (arith, under.steered.1.many, ap length (heard_append (mailed_in lock.base) old.number [] first.seen on.later.0), length-append (heard_of lock.base old.number first.seen) (heard_in (mailed_in lock.base) old.number first.seen on.later.0))))))
       where

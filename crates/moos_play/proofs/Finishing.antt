@@ -11,7 +11,7 @@ use Rattle.moos_client.specs.Calls.{entries_of}
 use Rattle.moos_client.specs.Hearing.{fetches, heard_in}
 use Rattle.moos_client.proofs.Hearing.{heard_many}
 use Rattle.moos_lawful.specs.Answering.{answers_of, moment_in, openings, turns_from}
-use Rattle.moos_lawful.specs.Schedules.{clients_below, entries_below, IsLawfulFor, IsPlayable, rises}
+use Rattle.moos_lawful.specs.Schedules.{clients_below, entries_below, IsLawfulFor, IsPlayable, never_falls}
 use Rattle.moos_lawful.proofs.Going.{completion, lawful_then}
 use Rattle.moos_lawful.proofs.Parts.{either, none_of}
 use Rattle.moos_lawful.proofs.Playable.{is_playable}
@@ -138,12 +138,12 @@ lawful_helm order script helm names history number lines so = record {
     below_all : list_all (λ entry. nat_lt entry.client (clients + 1)) (entries_below known so.rest) ≡ true
     below_all = subst (λ k. list_all (λ entry. nat_lt entry.client k) (entries_below known so.rest) ≡ true) known_is (kept_pass (λ entry. nat_lt entry.client known) so.rest)
 
-    moments : (order : Order) → rises 0 (map (moment_in order clients 1) (entries_below (clients + 1) so.rest ++ [])) ≡ true → KeepsOrder order clients (entries_below known so.rest)
+    moments : (order : Order) → never_falls 0 (map (moment_in order clients 1) (entries_below (clients + 1) so.rest ++ [])) ≡ true → KeepsOrder order clients (entries_below known so.rest)
     moments Race h = tt
     moments Stamp h =
         rises_from (λ entry. nat_lt entry.client (clients + 1)) (moment_in Stamp clients 1) (moment_of clients)
         (λ x y px py less. subst (λ m. m ≤ moment_of clients y) (moment_new clients x px) (subst (λ m. moment_in Stamp clients 1 x ≤ m) (moment_new clients y py) less)) 0 (entries_below known so.rest) below_all (from_none (moment_of clients) (entries_below known so.rest))
-        (subst (λ k. rises 0 (map (moment_in Stamp clients 1) (entries_below k so.rest)) ≡ true) (sym known_is) (subst (λ all. rises 0 (map (moment_in Stamp clients 1) all) ≡ true) (append-nil (entries_below (clients + 1) so.rest)) h))
+        (subst (λ k. never_falls 0 (map (moment_in Stamp clients 1) (entries_below k so.rest)) ≡ true) (sym known_is) (subst (λ all. never_falls 0 (map (moment_in Stamp clients 1) all) ≡ true) (append-nil (entries_below (clients + 1) so.rest)) h))
 
 -- and without one
 lawful_lines : (order : Order) (script : Script) (names : List (List ℕ)) (history : History) → clients_below (helm_number script) script.lines ≡ true → IsLawfulFor (schedule_with order script None names) history → IsLawfulBeside order script None names history
@@ -179,11 +179,11 @@ lawful_lines order script names history lines so = record {
         first_moment : (e : Entry) → nat_lt e.client clients ≡ true → suc 0 * e.stamp + (suc e.client - clients) ≡ e.stamp
         first_moment e below = let less : e.client < clients = grind (arith, nat_tests, below) in omega (arith, less)
 
-    moments : (order : Order) → rises 0 (map (moment_in order clients 0) (entries_below (clients + 0) so.rest ++ [])) ≡ true → KeepsOrder order clients (entries_below clients so.rest)
+    moments : (order : Order) → never_falls 0 (map (moment_in order clients 0) (entries_below (clients + 0) so.rest ++ [])) ≡ true → KeepsOrder order clients (entries_below clients so.rest)
     moments Race h = tt
     moments Stamp h =
         rises_from (λ entry. nat_lt entry.client clients) (moment_in Stamp clients 0) (moment_of clients) keeps 0 (entries_below clients so.rest) (kept_pass (λ entry. nat_lt entry.client clients) so.rest) (from_none (moment_of clients) (entries_below clients so.rest))
-        (subst (λ k. rises 0 (map (moment_in Stamp clients 0) (entries_below k so.rest)) ≡ true) no_more (subst (λ all. rises 0 (map (moment_in Stamp clients 0) all) ≡ true) (append-nil (entries_below (clients + 0) so.rest)) h))
+        (subst (λ k. never_falls 0 (map (moment_in Stamp clients 0) (entries_below k so.rest)) ≡ true) no_more (subst (λ all. never_falls 0 (map (moment_in Stamp clients 0) all) ≡ true) (append-nil (entries_below (clients + 0) so.rest)) h))
 
 -- A HISTORY THAT IS LAWFUL FOR THE SCHEDULE of a script and its helm is lawful beside the entries of further clients.
 lawful_beside : (order : Order) (script : Script) (s : Option HelmClient) (names : List (List ℕ)) (history past : History) → are_lines (length script.names) 0 script.stop script.lines ≡ true → HasHeard names (helm_number script) script.stop s past

@@ -12,7 +12,7 @@ use Rattle.std.proofs.Math.Nat.{mul-le-mul}
 use Rattle.moos_client.specs.Calls.{entries_of}
 use Rattle.moos_client.proofs.Histories.{fronts_pass}
 use Rattle.moos_lawful.specs.Answering.{moment_in, turns_from}
-use Rattle.moos_lawful.specs.Schedules.{clients_below, due_in, IsLawfulSoFar, rises}
+use Rattle.moos_lawful.specs.Schedules.{clients_below, due_in, IsLawfulSoFar, never_falls}
 use Rattle.moos_lawful.proofs.Parts.{all_raised, due_stays, either, none_of}
 use Rattle.moos_lawful.proofs.Stepping.{KeepsMoment, left_by, lines_moment, step_on, turns_rise}
 use Rattle.moos_post.specs.declared.entry.Entry.{Entry}
@@ -141,11 +141,11 @@ module _ (script : Script) (names : List (List ℕ)) (valid : are_lines (length 
 
     -- the helm's next turns rise from a moment that isn't above the next tick
     turns_late : (s : Option HelmClient) (number : ℕ) (history : History) (bound : ℕ) → StandsAt names number s history → ((t : HelmClient) → s ≡ Some t → t.ticks < ticks_to script.stop (helm_setup_of t) → bound ≤ suc (length (answerers (helm_of s))) * (t.ticks * t.period) + (suc t.number - (length script.names)))
-        → rises bound (map (moment_in Stamp (length script.names) (length (answerers (helm_of s)))) (turns_left script.stop s names history)) ≡ true
+        → never_falls bound (map (moment_in Stamp (length script.names) (length (answerers (helm_of s)))) (turns_left script.stop s names history)) ≡ true
     turns_late None number history bound stands low = refl
     turns_late (Some t) number history bound stands low = by (ticks_to script.stop (helm_setup_of t) - t.ticks) refl
       where
-        by : (count : ℕ) → ticks_to script.stop (helm_setup_of t) - t.ticks ≡ count → rises bound (map (moment_in Stamp (length script.names) 1) (turns_from (answering (helm_setup_of t)) t.number t.period (heard_of names t.number history) t.ticks count)) ≡ true
+        by : (count : ℕ) → ticks_to script.stop (helm_setup_of t) - t.ticks ≡ count → never_falls bound (map (moment_in Stamp (length script.names) 1) (turns_from (answering (helm_setup_of t)) t.number t.period (heard_of names t.number history) t.ticks count)) ≡ true
         by zero e = refl
         by (suc count) e = turns_rise (answering (helm_setup_of t)) (length script.names) 1 t.number t.period (heard_of names t.number history) t.ticks (suc count) bound (low t refl (omega (arith, e)))
 

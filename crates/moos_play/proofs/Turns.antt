@@ -19,7 +19,7 @@ use Rattle.moos_client.specs.Hearing.{heard_in}
 use Rattle.moos_client.proofs.Hearing.{heard_append, heard_deaf}
 use Rattle.moos_client.proofs.Histories.{front_pass, own_rest}
 use Rattle.moos_lawful.specs.Answering.{answers_of, moment_in, openings, turns_from}
-use Rattle.moos_lawful.specs.Schedules.{due_in, rises}
+use Rattle.moos_lawful.specs.Schedules.{due_in, never_falls}
 use Rattle.moos_lawful.proofs.Parts.{one_rises}
 use Rattle.moos_lawful.proofs.Stepping.{turns_rise}
 use Rattle.moos_play.proofs.Hearing.{ticks_stay}
@@ -259,10 +259,10 @@ front_one clients helm heard i later begins =
 
 -- and what is left of it, with the turns behind
 pub left_late : (clients : ℕ) (names : List (List ℕ)) (helm : HelmSetup) (count whole more : ℕ) (history later : History) (stopped : IsStopped names helm whole (count + 1) (history ++ later)) → HasBegun names helm count history later stopped.left → count ≤ length (heard_of names helm.client (history ++ later))
-    → rises (2 * (count * helm.period) + (suc helm.client - clients))
+    → never_falls (2 * (count * helm.period) + (suc helm.client - clients))
     (map (moment_in Stamp clients 1) (stopped.left ++ turns_from (answering helm) helm.client helm.period (heard_of names helm.client (history ++ later)) (length (heard_of names helm.client (history ++ later))) more)) ≡ true
 left_late clients names helm count whole more history later stopped begun heard =
-    subst (λ all. rises m all ≡ true) (sym (map-append key stopped.left turns))
+    subst (λ all. never_falls m all ≡ true) (sym (map-append key stopped.left turns))
     (one_rises m (map key stopped.left) (map key turns) (by_moments key m stopped.left (same (ℕ_discrete (length now) count))) (turns_rise (answering helm) clients 1 helm.client helm.period now (length now) more m low))
   where
     key : Entry → ℕ

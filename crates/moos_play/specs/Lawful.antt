@@ -13,7 +13,7 @@ use Rattle.helm_core.specs.declared.iteration.Iteration.{Iteration}
 use Rattle.helm_core.specs.Iterations.{iteration_at}
 use Rattle.helm_core.specs.Plans.{Plan, wants_of}
 use Rattle.helm_core.specs.Ticks.{Tick, tick_of}
-use Rattle.moos_lawful.specs.Schedules.{clients_below, entries_below, rises}
+use Rattle.moos_lawful.specs.Schedules.{clients_below, entries_below, never_falls}
 use Rattle.moos_play.specs.declared.run.HelmRun.{HelmRun}
 use Rattle.script_reader.specs.declared.script.Order.{Order}
 use Rattle.script_reader.specs.declared.script.Order.TheVariants.{Stamp, Race}
@@ -46,12 +46,12 @@ tick_entries helm heard i =
     ∷ entry_of helm.client (i * helm.period) (Posts (iteration_at helm.plan heard i).posts)
     ∷ []
 
--- the helm's entries at its first ticks, so many
+-- the helm's entries at its first i ticks
 abbrev pub ticks_of : HelmSetup → List Tick → ℕ → List Entry
 ticks_of helm heard zero = []
 ticks_of helm heard (suc i) = ticks_of helm heard i ++ tick_entries helm heard i
 
--- the iterations of the first ticks, so many
+-- the iterations of the first i ticks
 abbrev pub iterations_of : Plan → List Tick → ℕ → List Iteration
 iterations_of plan heard zero = []
 iterations_of plan heard (suc i) = iterations_of plan heard i ++ iteration_at plan heard i ∷ []
@@ -82,7 +82,7 @@ moment_of helm entry = if entry.client == helm then suc (2 * entry.stamp) else 2
 -- What an order asks of the entries behind the helm's opening: by their stamps none follows one of a later moment,
 -- and in a race they may be in any order.
 abbrev pub KeepsOrder : Order → ℕ → History → Type 0
-KeepsOrder Stamp helm history = IsTrue (rises 0 (map (moment_of helm) history))
+KeepsOrder Stamp helm history = IsTrue (never_falls 0 (map (moment_of helm) history))
 KeepsOrder Race helm history = Unit {0}
 
 -- What an order asks of the entries of a round: by their stamps they have that of the round, and in a race they may have any.
@@ -103,7 +103,7 @@ pub record MayStart (run : HelmRun) : Type 0 where
   pub stands : StandsFor run.helm []
   pub period : 1 ≤ run.period
 
--- the names of the clients: the script's, and then the helm's if there is one, whatever is known of it
+-- the names of the clients: the script's, and then the helm's, if there is a helm
 abbrev pub names_with : {A : Type 0} → Script → Option A → List (List ℕ)
 names_with script None = script.names
 names_with script (Some helm) = script.names ++ codes "pHelmIvP" ∷ []

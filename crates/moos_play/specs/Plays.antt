@@ -58,7 +58,7 @@ pub record IsFurther (play : Playing) (client : ℕ) : Type 0 where
   pub past : known_clients_in play ≤ client
   pub named : client < length (clients_in play)
 
--- the iterations of a helm's first ticks, so many, over what it has heard in a history; none without a helm
+-- the iterations of a helm's first `ticks` ticks, over what it has heard in a history; none without a helm
 abbrev pub iterations_by : List (List ℕ) → History → Option HelmSetup → ℕ → List Iteration
 iterations_by names history None ticks = []
 iterations_by names history (Some helm) ticks = iterations_of helm.plan (heard_of names helm.client history) ticks
@@ -67,7 +67,7 @@ iterations_by names history (Some helm) ticks = iterations_of helm.plan (heard_o
 abbrev pub iterations_made : Playing → List Iteration
 iterations_made play = iterations_by (clients_in play) (history_in play) (helm_in play) play.ticks
 
--- how many of the helm's ticks up to a stamp are left once so many are made
+-- how many of the helm's ticks up to a stamp are left once `ticks` are made
 abbrev pub ticks_behind : ℕ → Option HelmSetup → ℕ → ℕ
 ticks_behind stop None ticks = 0
 ticks_behind stop (Some helm) ticks = ticks_to stop helm - ticks
@@ -76,7 +76,7 @@ ticks_behind stop (Some helm) ticks = ticks_to stop helm - ticks
 abbrev pub left_in : Playing → ℕ
 left_in play = length (script_played play).lines - play.played + ticks_behind (script_played play).stop (helm_in play) play.ticks
 
--- the stamp of the helm's next tick once so many are made, if one is left up to a stamp
+-- the stamp of the helm's next tick once `ticks` are made, if one is left up to a stamp
 abbrev pub tick_at : ℕ → Option HelmSetup → ℕ → Option ℕ
 tick_at stop None ticks = None
 tick_at stop (Some helm) ticks = if nat_le ticks (stop / helm.period) then Some (ticks * helm.period) else None
@@ -166,13 +166,12 @@ abbrev pub HasTurn : Order → Playing → Playing → Round → Type 0
 HasTurn Stamp before after round = IsTurn before after round
 HasTurn Race before after round = Unit {0}
 
--- the helm's entries in a history are its opening and those of so many ticks over what it has heard there, which are as many
--- mails
+-- the helm's entries in a history are its opening and those of `count` ticks over what it has heard there, which are as many mails
 pub record HasTicked (names : List (List ℕ)) (helm : HelmSetup) (count : ℕ) (history : History) : Type 0 where
   pub own : entries_of helm.client history ≡ opening_of helm ++ ticks_of helm (heard_of names helm.client history) count
   pub many : length (heard_of names helm.client history) ≡ count
 
--- so the helm of a run, if there is one, has made as many ticks as there are iterations
+-- the helm of a run, if there is one, has made as many ticks as there are iterations
 abbrev pub HasSteeredSoFar : Playing → Type 0
 HasSteeredSoFar play = IfSome (helm_in play) (λ helm. HasTicked (clients_in play) helm (length (iterations_made play)) (history_in play))
 
@@ -187,8 +186,8 @@ pub record IsLeft (play : Playing) (left : List Entry) : Type 0 where
   pub none : left_in play ≡ 0 → left ≡ []
   pub late : KeepsLeft (order_played play) (next_stamp play) left
 
--- a helm that is run for a script: its number is behind those of the script's clients, it has a period, and of its ticks up
--- to the last stamp it has made so many
+-- a helm that is run for a script: its number is behind those of the script's clients, it has a period, and of its ticks up to
+-- the last stamp it has made `made`
 pub record IsRunFor (script : Script) (made : ℕ) (helm : HelmSetup) : Type 0 where
   pub client : helm.client ≡ helm_number script
   pub period : 1 ≤ helm.period
@@ -201,9 +200,8 @@ pub record IsPlayedOut (play : Playing) : Type 0 where
   pub alone : clients_in play ≡ names_with (script_played play) (helm_in play) → IsLawful (order_played play) (script_played play) (helm_in play) (clients_in play) (history_in play)
   pub iterations : iterations_made play ≡ iterations (helm_in play) (script_played play).stop (heard_of (clients_in play) (helm_number (script_played play)) (history_in play))
 
--- A run that may yet be completed: with some entries more, none of them a further client's, its history is lawful beside the
--- entries of further clients, by itself if there are none, and the iterations of that history are those so far and some
--- more.
+-- A run that may yet be completed: with some more entries, none of them a further client's, its history is lawful beside the
+-- entries of further clients, by itself if there are none, and the iterations of that history are those so far and some more.
 pub record HasCompletion (play : Playing) : Type 0 where
   pub rest : History
   pub known : IsTrue (clients_below (known_clients_in play) rest)

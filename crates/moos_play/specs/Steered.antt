@@ -1,5 +1,5 @@
 -- The helm at its seat, and where a run is between two rounds.
-use Rattle.std.specs.Prelude.{◌≡◌, ◌⊎◌, ℕ, ◌+◌, ◌-◌, ◌*◌, ◌^◌, ◌==◌, ◌≤◌, ◌<◌, Bool, false, nat_lt, if◌then◌else◌, List, [], ◌∷◌, ◌++◌, length, drop, take, Option, None, Some, option_map, IfSome, IsTrue, OnErr, OnOk, Result}
+use Rattle.std.specs.Prelude.{◌≡◌, ◌⊎◌, ℕ, ◌+◌, ◌-◌, ◌*◌, ◌^◌, ◌==◌, ◌≤◌, ◌<◌, Bool, false, nat_lt, if◌then◌else◌, List, [], ◌∷◌, ◌++◌, length, drop, take, Option, None, Some, option_map, slice_get, IfSome, IsTrue, OnErr, OnOk, Result}
 use Rattle.std.specs.List.{list_all}
 use Rattle.moos_post.specs.History.{History}
 use Rattle.moos_post.specs.declared.entry.Call.{Call}
@@ -47,36 +47,36 @@ pub record HasIterated (names : List (List ℕ)) (before after : SeatState) (old
 abbrev pub MayHaveCalled : SeatState → SeatState → ℕ → Call → Type 0
 MayHaveCalled before after stamp call = IsUncalled before after ⊎ IsCalled before after stamp call
 
--- the helm may make its ticks up to so many behind a history, with 1 to 16 workers for what it solves
+-- the helm may make its ticks behind a history until they are `ticks`, with 1 to 16 workers for what it solves
 pub record MayTick (names : List (List ℕ)) (s : HelmClient) (history : History) (ticks workers : ℕ) : Type 0 where
   pub steered : Steers names s history
   pub count : s.ticks ≤ ticks
   pub early : ticks * s.period < 2 ^ 64 + s.period
   pub few : (1 ≤ workers) × (workers ≤ 16)
 
--- the same at its seat
+-- the helm may make its ticks at its seat until they are `ticks`
 pub record MaySteer (lock : CommunityLock) (seat : SeatState) (s : HelmClient) (ticks workers : ℕ) : Type 0 where
   pub may : MayCall lock seat
   pub number : seat.number ≡ s.number
   pub own : HasOwn seat
   pub tick : MayTick lock.base s seat.seen ticks workers
 
--- the same if the first seat has taken in all others, the helm's too
+-- the helm may make its ticks until they are `ticks`, and the first seat has taken in all others, the helm's too
 pub record MayLead (lock : CommunityLock) (first : SeatState) (s : HelmClient) (ticks workers : ℕ) : Type 0 where
   pub gathered : IsGathered lock first
   pub whole : IsWhole first
   pub client : s.number < length lock.base
   pub tick : MayTick lock.base s first.seen ticks workers
 
--- A helm that found no memory behind so many whole ticks, between two ticks or within one. With what is left of that tick its
--- entries in a history are its opening and those of as many ticks as it has heard there, which are no more than so many.
+-- A helm that found no memory behind `whole` whole ticks, between two ticks or within one. With what is left of that tick its
+-- entries in a history are its opening and those of as many ticks as it has heard there, which are at most `most`.
 pub record IsStopped (names : List (List ℕ)) (helm : HelmSetup) (whole most : ℕ) (history : History) : Type 0 where
   pub left : List Entry
   pub own : entries_of helm.client history ++ left ≡ opening_of helm ++ ticks_of helm (heard_of names helm.client history) (length (heard_of names helm.client history))
   pub made : whole ≤ length (heard_of names helm.client history)
   pub few : length (heard_of names helm.client history) ≤ most
 
--- the same of the helm at its seat, in what the seat had seen when its last call was made
+-- a helm at its seat that found no memory, as `IsStopped` says of what the seat had seen when its last call was made
 pub record HasStopped (names : List (List ℕ)) (helm : HelmSetup) (whole most : ℕ) (seat : SeatState) : Type 0 where
   pub before : History
   pub later : Begins seat.seen before
@@ -97,7 +97,7 @@ iterations_in (Some helm_client) = helm_client.iterations
 abbrev pub KeepsEach : Option HelmClient → Option HelmClient → Type 0
 KeepsEach before after = length (iterations_in after) + ticks_in before ≡ length (iterations_in before) + ticks_in after
 
--- The helm has made its ticks at the seat up to so many, or has stopped on the way if it found no memory.
+-- The helm has made its ticks at the seat until they are `ticks`, or has stopped on the way if it found no memory.
 pub record HasSteered {E : Type 0} (lock : CommunityLock) (ticks : ℕ) (before after : SeatState) (old new : HelmClient) (result : Result (Unit {0}) E) : Type 0 where
   pub made : Makes Anything before after
   pub same : helm_setup_of new ≡ helm_setup_of old
@@ -107,7 +107,8 @@ pub record HasSteered {E : Type 0} (lock : CommunityLock) (ticks : ℕ) (before 
   pub reached : OnOk result (new.ticks ≡ ticks)
   pub stopped : OnErr result (HasStopped lock.base (helm_setup_of old) new.ticks ticks after)
 
--- the same in what the first seat has seen once it has all others again, if the clients may make some entries too
+-- The helm has made its ticks until they are `ticks`, or has stopped on the way if it found no memory, by what the first seat has
+-- seen once it has all others again. The clients may have made some entries too.
 pub record HasLed {E : Type 0} (lock : CommunityLock) (may : ℕ → List Entry → Type 0) (ticks : ℕ) (before after : SeatState) (old new : HelmClient) (result : Result (Unit {0}) E) : Type 0 where
   pub gathered : IsGathered lock after
   pub goes_on : GoesOn may before after
@@ -127,7 +128,7 @@ turns_left stop None names history = []
 turns_left stop (Some helm_client) names history =
     turns_from (answering (helm_setup_of helm_client)) helm_client.number helm_client.period (heard_of names helm_client.number history) helm_client.ticks (ticks_to stop (helm_setup_of helm_client) - helm_client.ticks)
 
--- what is left for a client once so many lines are played
+-- what is left for a client once `from` lines are played
 abbrev pub left_for : Script → Option HelmClient → List (List ℕ) → ℕ → History → ℕ → List Entry
 left_for script helm_client names from history n =
     if nat_lt n (length script.names) then entries_of n (drop from script.lines) else turns_left script.stop helm_client names history
@@ -136,13 +137,13 @@ left_for script helm_client names from history n =
 abbrev pub parts : Script → Option HelmClient → ℕ
 parts script helm_client = length script.names + length (answerers (helm_of helm_client))
 
--- A history that is lawful so far, in which just so many lines are played and the helm has made all its ticks so far.
+-- A history that is lawful so far, in which just the first `from` lines are played and the helm has made all its ticks so far.
 pub record HasPlayed (order : Order) (script : Script) (names : List (List ℕ)) (helm_client : Option HelmClient) (from : ℕ) (history : History) : Type 0 where
   pub so_far : IsLawfulSoFar (schedule_with order script (helm_of helm_client) names) history
   pub left : (n : ℕ) → n < parts script helm_client → so_far.left n ≡ left_for script helm_client names from history n
 
--- A run between two steps, in which so many lines are played: the first seat has taken in all others, and has seen a history
--- that is lawful so far.
+-- A run between two steps, in which the first `from` lines are played: the first seat has taken in all others, and has seen a
+-- history that is lawful so far.
 pub record IsUnderWay (order : Order) (script : Script) (lock : CommunityLock) (helm_client : Option HelmClient) (from : ℕ) (first : SeatState) : Type 0 where
   pub gathered : IsGathered lock first
   pub whole : IsWhole first
@@ -165,13 +166,18 @@ abbrev pub IsBehind : Option ℕ → List Entry → Type 0
 IsBehind tick [] = Unit {0}
 IsBehind tick (line ∷ lines) = IsTrue (comes_before tick line.stamp)
 
--- The lines from one place to another come next: they have one stamp, which is not above the tick's. If there are none
--- the tick comes next.
+-- the line at this place, if there is one, has another stamp
+abbrev pub HasOtherStamp : List Entry → ℕ → ℕ → Type 0
+HasOtherStamp lines stamp place = IfSome (slice_get lines place) (λ line. (line.stamp == stamp) ≡ false)
+
+-- The lines from one place to another come next: they have one stamp, which is not above the tick's, and the line behind them has
+-- another one. If there are none the tick comes next.
 pub record IsDue (lines : List Entry) (tick : Option ℕ) (from to : ℕ) : Type 0 where
   pub more : from ≤ to
   pub within : to ≤ length lines
   pub stamp : ℕ
   pub one : IsTrue (list_all (λ line. line.stamp == stamp) (take (to - from) (drop from lines)))
+  pub whole : from < to → HasOtherStamp lines stamp to
   pub early : from < to → comes_before tick stamp ≡ false
   pub next : from ≡ to → IsBehind tick (drop from lines)
 

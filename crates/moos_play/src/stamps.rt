@@ -1,7 +1,7 @@
 // Which lines and which tick are next by their stamps.
 ghost use Rattle.std.specs.Prelude.{◌≡◌, ◌<◌, ◌≤◌, length, slice_index_or, IfSome};
 ghost use Rattle.moos_step.specs.Steps.{EndsStep};
-ghost use Rattle.moos_play.specs.Steered.{comes_before, IsDue, tick_due};
+ghost use Rattle.moos_play.specs.Steered.{comes_before, HasOtherStamp, IsDue, tick_due};
 
 use crate::helm_client::HelmClient;
 use moos_post::Entry;
@@ -46,11 +46,12 @@ fn comes_before(tick: Option<u64>, stamp: u64) -> bool
     }
 }
 
-// Where the lines end that have the stamp of the first, which is the one at `from`.
+// Where the lines from `from` on end that have the stamp of the first of them.
 fn stamp_end(lines: &[Entry], from: usize, first: &Entry) -> usize
     requires from { from < length lines.now }
     requires first { first.now ≡ slice_index_or lines.now from first.now }
-    ensures { EndsStep lines.now first.now.stamp from result }
+    ensures step { EndsStep lines.now first.now.stamp from result }
+    ensures whole { HasOtherStamp lines.now first.now.stamp result }
 {
     let stamp = first.stamp;
     let mut to = from + 1;
