@@ -3,7 +3,7 @@ use Rattle.std.specs.Prelude.{Bool, pos, codes, Some}
 use Rattle.bhv_file.specs.declared.spec.Shape.TheVariants.{AvoidCollision}
 use Rattle.bhv_file.specs.declared.spec.Spec.{Spec}
 
--- its parameters, if the contact may be clear for good
+-- the parameters of a behaviour that keeps clear of a contact, which may be clear for good
 abbrev pub kept_clear : Bool → Spec
 kept_clear resolved = record {
   weight = 100000;

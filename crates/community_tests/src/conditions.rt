@@ -1,5 +1,5 @@
 // Conditions: what each form of them holds of, what is refused, and the variables that they name.
-use crate::made::{learn, number, text};
+use crate::made::{check, learn, number, text};
 use helm_cond::*;
 use moos_post::Copied;
 use std::alloc::Global;
@@ -56,7 +56,7 @@ X = \"abc";
 // The same comes of each row.
 fn come(rt: &impl Abort, alloc: Global, info: &Info, rows: &str, comes: Option<bool>) {
     for row in rows.lines() {
-        assert!(rt; told(rt, alloc, info, row) == comes, "{row}");
+        check(rt, told(rt, alloc, info, row) == comes, true, row);
     }
 }
 

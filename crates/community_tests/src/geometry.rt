@@ -17,16 +17,8 @@ fn spot(x: i64, y: i64) -> Spot
     Spot { x, y }
 }
 
-// Each step, by how far it leads east and north, leads the farthest along its degree.
-fn lead(rt: &impl Abort, steps: &[(i64, i64, Option<u16>)]) {
-    for (east, north, degree) in steps {
-        assert!(rt; -FAR <= *east && *east <= FAR);
-        assert!(rt; -FAR <= *north && *north <= FAR);
-        assert!(rt; bearing(*east, *north) == *degree, "{east} {north}");
-    }
-}
-
-const EIGHT_WINDS: [(i64, i64, Option<u16>); 9] = [
+// Steps, by how far they lead east and north, and the degree along which each leads the farthest.
+const STEPS: [(i64, i64, Option<u16>); 25] = [
     (0, 7, Some(0)),
     (7, 7, Some(45)),
     (7, 0, Some(90)),
@@ -36,14 +28,6 @@ const EIGHT_WINDS: [(i64, i64, Option<u16>); 9] = [
     (-7, 0, Some(270)),
     (-7, 7, Some(315)),
     (0, 0, None),
-];
-
-#[test]
-fn eight_winds(rt: HostRuntime) {
-    lead(&rt, &EIGHT_WINDS);
-}
-
-const GREATEST_DISTANCES: [(i64, i64, Option<u16>); 10] = [
     (0, FAR, Some(0)),
     (FAR, FAR, Some(45)),
     (FAR, 0, Some(90)),
@@ -54,15 +38,7 @@ const GREATEST_DISTANCES: [(i64, i64, Option<u16>); 10] = [
     (-FAR, FAR, Some(315)),
     (FAR, -1, Some(90)),
     (-1, FAR, Some(0)),
-];
-
-#[test]
-fn greatest_distances(rt: HostRuntime) {
-    lead(&rt, &GREATEST_DISTANCES);
-}
-
-// Along the degree beside it the step leads as far.
-const LEAST_OF_TWO: [(i64, i64, Option<u16>); 6] = [
+    // Along the degree beside it the step leads as far.
     (2, 175, Some(0)),
     (-2, 175, Some(0)),
     (1, 2, Some(26)),
@@ -72,8 +48,12 @@ const LEAST_OF_TWO: [(i64, i64, Option<u16>); 6] = [
 ];
 
 #[test]
-fn least_of_two_degrees(rt: HostRuntime) {
-    lead(&rt, &LEAST_OF_TWO);
+fn steps(rt: HostRuntime) {
+    for (east, north, degree) in &STEPS {
+        assert!(rt; -FAR <= *east && *east <= FAR);
+        assert!(rt; -FAR <= *north && *north <= FAR);
+        assert!(rt; bearing(*east, *north) == *degree, "{east} {north}");
+    }
 }
 
 #[test]

@@ -2,17 +2,13 @@
 //! by hand.
 //!
 //! The tests of these crates are here, since a crate with tests of its own is proved once more with them. One module for
-//! each subject: `posts`, `registrations`, `mailboxes`, `turns` of the lock, `database` and `database_parts`, `clients`,
-//! `bridges` between two communities, `shares` of two scripts with one, of the helm `conditions`, `geometry`, `modes` and `lives`,
+//! each subject: `posts`, `registrations`, `mailboxes`, `turns` of the lock, `database` and `database_parts`,
+//! `shares` of two scripts with a bridge, of the helm `conditions`, `geometry`, `modes` and `lives`,
 //! `contacts` and `avoids` that keep clear of them, and `vehicles`. What they make of words is `made` in one place.
 #![tactic(auto)]
 
 #[cfg(test)]
 mod avoids;
-#[cfg(test)]
-mod bridges;
-#[cfg(test)]
-mod clients;
 #[cfg(test)]
 mod conditions;
 #[cfg(test)]

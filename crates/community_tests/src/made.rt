@@ -1,6 +1,8 @@
 // What tests make of words, if memory is left, and how a row of a table is judged.
 use helm_cond::Info;
-use moos_post::{Batch, Milli, Name, Names, Pair, Pattern, Reg, Regs, Txt, Value};
+use moos_db::Letter;
+use moos_post::{Batch, Milli, Name, Names, Pair, Pattern, Post, Reg, Regs, Txt, Value};
+use moos_text::print_milli;
 use std::alloc::Global;
 use std::process::Abort;
 
@@ -73,6 +75,43 @@ pub(crate) fn batch(rt: &impl Abort, alloc: Global, vars: &[&str]) -> Batch {
         batch.push(Pair { var, value }).expect(rt, "memory");
     }
     batch
+}
+
+/// A letter that says this of a variable.
+pub(crate) fn letter(rt: &impl Abort, alloc: Global, var: &str, value: Value) -> Letter {
+    let var = name(rt, alloc, var);
+    let post = Post {
+        stamp: 0,
+        source: 0,
+        var,
+        value,
+    };
+    Letter { number: 0, post }
+}
+
+/// Appends these pieces.
+pub(crate) fn append(rt: &impl Abort, text: &mut Vec<u8>, pieces: &[&[u8]]) {
+    for piece in pieces {
+        text.extend_from_slice(*piece).expect(rt, "memory");
+    }
+}
+
+// A batch as text: each pair as VAR="text" or VAR=number, and a blank behind it.
+fn shown(rt: &impl Abort, alloc: Global, batch: &Batch) -> Vec<u8> {
+    let mut text = Vec::new(alloc);
+    for pair in batch.all() {
+        append(rt, &mut text, &[pair.var.bytes(), b"="]);
+        match &pair.value {
+            Value::Num(number) => append(rt, &mut text, &[print_milli(*number).bytes(), b" "]),
+            Value::Text(said) => append(rt, &mut text, &[b"\"", said.bytes(), b"\" "]),
+        }
+    }
+    text
+}
+
+/// The batch has this text.
+pub(crate) fn is_shown(rt: &impl Abort, alloc: Global, batch: &Batch, wanted: &[u8]) {
+    assert_eq!(rt; shown(rt, alloc, batch).as_slice(), wanted);
 }
 
 /// The value is what is known of the variable.

@@ -1,10 +1,9 @@
 // What each call gives if memory is left.
-use crate::made::{name, names, number, regs, text};
+use crate::made::{is_shown, name, names, number, regs, text};
 use moos_post::{
     Batch, Copied, Milli, Name, NameFault, Pair, Pattern, PatternFault, Regs, Txt, TxtFault, Value,
 };
 use std::alloc::Global;
-use std::collections::HashSet;
 use std::process::Abort;
 
 const GREATEST: i64 = 1_000_000_000_000;
@@ -65,36 +64,19 @@ fn bytes_of_names(rt: HostRuntime) {
     }
 }
 
-// What has a copy of the name alone as a key.
-fn only(rt: &impl Abort, alloc: Global, name: &Name) -> HashSet<Name> {
-    let mut names = HashSet::new(alloc);
-    let copied = name.copy(alloc).expect(rt, "memory");
-    names.insert(copied).expect(rt, "memory");
-    names
-}
+// Two names, and whether they are equal: not to a longer one, nor to the same with another case.
+const EQUALS: [(&str, &str, bool); 3] = [
+    ("NAV_X", "NAV_X", true),
+    ("NAV_X", "NAV_XY", false),
+    ("NAV_X", "nav_x", false),
+];
 
-// The word is the known name or not, and so it is by its hash.
-fn is_key(
-    rt: &impl Abort,
-    alloc: Global,
-    known_name: &Name,
-    known: &HashSet<Name>,
-    word: &str,
-    is_known: bool,
-) {
-    let other = name(rt, alloc, word);
-    assert!(rt; known.contains(&other) == is_known);
-    assert!(rt; (*known_name == other) == is_known);
-}
-
-// Equal names are found by their hash, and a name isn't equal to a longer one or to the same with another case.
 #[test]
-fn names_are_keys(rt: HostRuntime) {
-    let known_name = name(&rt, rt.alloc(), "NAV_X");
-    let known = only(&rt, rt.alloc(), &known_name);
-    is_key(&rt, rt.alloc(), &known_name, &known, "NAV_X", true);
-    is_key(&rt, rt.alloc(), &known_name, &known, "NAV_XY", false);
-    is_key(&rt, rt.alloc(), &known_name, &known, "nav_x", false);
+fn equal_names(rt: HostRuntime) {
+    for (one, other, equal) in &EQUALS {
+        let (one, other) = (name(&rt, rt.alloc(), *one), name(&rt, rt.alloc(), *other));
+        assert!(rt; (one == other) == *equal);
+    }
 }
 
 // Why the bytes are no text. If they are one, a copy of it has these bytes too.
@@ -159,59 +141,27 @@ fn bytes_of_patterns(rt: HostRuntime) {
     }
 }
 
-fn is_pair(rt: &impl Abort, pair: &Pair, var: &str, said: &str) {
-    assert!(rt; pair.var.bytes() == var.as_bytes());
-    match &pair.value {
-        Value::Text(text) => assert!(rt; text.bytes() == said.as_bytes()),
-        Value::Num(_) => panic!(rt; "a number"),
-    }
+fn add(rt: &impl Abort, alloc: Global, batch: &mut Batch, var: &str, value: Value) {
+    let var = name(rt, alloc, var);
+    batch.push(Pair { var, value }).expect(rt, "memory");
 }
-
-fn pair_of(rt: &impl Abort, alloc: Global, var: &str, said: &str) -> Pair {
-    let (var, value) = (name(rt, alloc, var), text(rt, alloc, said));
-    Pair { var, value }
-}
-
-// The pairs of a batch, in their order.
-const PAIRS: [(&str, &str); 3] = [("A", "one"), ("B", ""), ("A", "three")];
 
 fn batch_of(rt: &impl Abort, alloc: Global) -> Batch {
     let mut batch = Batch::new(alloc);
-    for (var, said) in PAIRS {
-        batch
-            .push(pair_of(rt, alloc, var, said))
-            .expect(rt, "memory");
-    }
+    add(rt, alloc, &mut batch, "A", text(rt, alloc, "one"));
+    add(rt, alloc, &mut batch, "B", text(rt, alloc, ""));
+    add(rt, alloc, &mut batch, "A", number(rt, -1500));
     batch
 }
 
-// The pair is so, and so is a copy of it.
-fn is_copied(rt: &impl Abort, alloc: Global, pair: &Pair, var: &str, said: &str) {
-    is_pair(rt, pair, var, said);
-    let copied = pair.copy(alloc).expect(rt, "memory");
-    is_pair(rt, &copied, var, said);
-}
-
-fn are_pairs(rt: &impl Abort, alloc: Global, batch: &Batch) {
-    assert!(rt; batch.len() == 3 && batch.all().len() == 3);
-    is_pair(rt, batch.get(2), "A", "three");
-    for (pair, (var, said)) in batch.all().iter().zip(&PAIRS) {
-        is_copied(rt, alloc, pair, var, said);
-    }
-}
-
+// Its pairs are a copy's too, in their order.
 #[test]
 fn batches(rt: HostRuntime) {
     let batch = batch_of(&rt, rt.alloc());
     let mut copied = batch.copy(rt.alloc()).expect(&rt, "memory");
     copied.shrink_to_fit();
-    are_pairs(&rt, rt.alloc(), &copied);
-}
-
-#[test]
-fn copied_number(rt: HostRuntime) {
-    let number = number(&rt, -1500).copy(rt.alloc()).expect(&rt, "memory");
-    assert!(rt; matches!(&number, Value::Num(milli) if milli.get() == -1500));
+    assert!(rt; copied.len() == 3 && copied.get(2).var.bytes() == b"A".as_slice());
+    is_shown(&rt, rt.alloc(), &copied, b"A=\"one\" B=\"\" A=-1.5 ");
 }
 
 fn are_both(rt: &impl Abort, regs: &Regs) {

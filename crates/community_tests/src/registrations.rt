@@ -5,7 +5,7 @@ use moos_reg::{due, matches, selects};
 use std::alloc::Global;
 use std::process::Abort;
 
-// Whether a pattern matches a name, the pattern, and the name, if it isn't empty.
+// Whether a pattern matches a name, the pattern, and the name, if it isn't empty. The last five patterns are the longest ones.
 const MATCHES: &str = "yes NAV_X NAV_X
 no NAV_X NAV_Y
 no NAV_X NAV_XY
@@ -37,14 +37,12 @@ yes *aab aaaab
 yes a*b*c abcbc
 no a*b*c acbca
 yes *a*b bbaab
-no *a*b bba";
-
-// 64 letters, and patterns of 64 bytes.
-const LONGEST: &str = "yes aaaaaaaaaaaaaaaaaaaaaaaaaaaaaaaaaaaaaaaaaaaaaaaaaaaaaaaaaaaaaaaa
-yes ????????????????????????????????????????????????????????????????
-yes ****************************************************************
-no aaaaaaaaaaaaaaaaaaaaaaaaaaaaaaaaaaaaaaaaaaaaaaaaaaaaaaaaaaaaaaab
-no *a*a*a*a*a*a*a*a*a*a*a*a*a*a*a*a*a*a*a*a*a*a*a*a*a*a*a*a*a*a*a*b";
+no *a*b bba
+yes aaaaaaaaaaaaaaaaaaaaaaaaaaaaaaaaaaaaaaaaaaaaaaaaaaaaaaaaaaaaaaaa aaaaaaaaaaaaaaaaaaaaaaaaaaaaaaaaaaaaaaaaaaaaaaaaaaaaaaaaaaaaaaaa
+yes ???????????????????????????????????????????????????????????????? aaaaaaaaaaaaaaaaaaaaaaaaaaaaaaaaaaaaaaaaaaaaaaaaaaaaaaaaaaaaaaaa
+yes **************************************************************** aaaaaaaaaaaaaaaaaaaaaaaaaaaaaaaaaaaaaaaaaaaaaaaaaaaaaaaaaaaaaaaa
+no aaaaaaaaaaaaaaaaaaaaaaaaaaaaaaaaaaaaaaaaaaaaaaaaaaaaaaaaaaaaaaab aaaaaaaaaaaaaaaaaaaaaaaaaaaaaaaaaaaaaaaaaaaaaaaaaaaaaaaaaaaaaaaa
+no *a*a*a*a*a*a*a*a*a*a*a*a*a*a*a*a*a*a*a*a*a*a*a*a*a*a*a*a*a*a*a*b aaaaaaaaaaaaaaaaaaaaaaaaaaaaaaaaaaaaaaaaaaaaaaaaaaaaaaaaaaaaaaaa";
 
 // What a row says: whether it holds, and two words, which are empty if they are left out.
 fn read(row: &str) -> (bool, &str, &str) {
@@ -68,20 +66,6 @@ fn patterns_against_names(rt: HostRuntime) {
         check(
             &rt,
             is_match(&rt, rt.alloc(), word, name.as_bytes()),
-            holds,
-            row,
-        );
-    }
-}
-
-#[test]
-fn longest_patterns(rt: HostRuntime) {
-    for row in LONGEST.lines() {
-        let (holds, word, _) = read(row);
-        assert_eq!(rt; word.len(), 64);
-        check(
-            &rt,
-            is_match(&rt, rt.alloc(), word, &[b'a'; 64]),
             holds,
             row,
         );

@@ -1,8 +1,6 @@
 // The turns of a simulated vehicle's clients, worked by hand.
-use crate::made::{name, number};
-use moos_db::{Letter, Mail};
-use moos_post::{Batch, Post, Value};
-use moos_text::print_milli;
+use crate::made::{is_shown, letter, number};
+use moos_db::Mail;
 use sim_clients::{MarinePid, SimMarine};
 use sim_vehicle::Craft;
 use std::alloc::Global;
@@ -12,31 +10,10 @@ use std::process::Abort;
 fn mail(rt: &impl Abort, alloc: Global, said: &[(&str, i64)]) -> Mail {
     let mut mail = Mail::new(alloc);
     for (var, thousandths) in said {
-        let post = Post {
-            stamp: 0,
-            source: 0,
-            var: name(rt, alloc, *var),
-            value: number(rt, *thousandths),
-        };
-        mail.add(Letter { number: 0, post }).expect(rt, "memory");
+        let letter = letter(rt, alloc, *var, number(rt, *thousandths));
+        mail.add(letter).expect(rt, "memory");
     }
     mail
-}
-
-// A batch as text: each pair as VAR=number, and a blank behind it.
-fn shown(rt: &impl Abort, alloc: Global, batch: &Batch) -> Vec<u8> {
-    let mut text = Vec::new(alloc);
-    for pair in batch.all() {
-        text.extend_from_slice(pair.var.bytes())
-            .expect(rt, "memory");
-        text.extend_from_slice(b"=").expect(rt, "memory");
-        if let Value::Num(number) = &pair.value {
-            text.extend_from_slice(print_milli(*number).bytes())
-                .expect(rt, "memory");
-        }
-        text.extend_from_slice(b" ").expect(rt, "memory");
-    }
-    text
 }
 
 // The vehicle of an empty file.
@@ -76,7 +53,7 @@ fn pid_turns(rt: HostRuntime) {
     for (said, wanted) in TURNS {
         let mail = mail(&rt, alloc, *said);
         let batch = pid.turn(alloc, &craft, &mail).expect(&rt, "memory");
-        assert_eq!(&rt; shown(&rt, alloc, &batch).as_slice(), *wanted, "{said:?}");
+        is_shown(&rt, alloc, &batch, *wanted);
     }
 }
 
@@ -95,7 +72,7 @@ fn sim_turn(rt: HostRuntime) {
     let mail = mail(&rt, alloc, ASKED);
     let batch = sim.turn(alloc, &craft, 250, &mail).expect(&rt, "memory");
     let wanted = b"NAV_X=0 NAV_Y=0.062 NAV_HEADING=0.562 NAV_SPEED=0.25 NAV_DEPTH=0.125 ";
-    assert_eq!(&rt; shown(&rt, alloc, &batch).as_slice(), wanted.as_slice());
+    is_shown(&rt, alloc, &batch, wanted);
 }
 
 // With ample memory the openings are made.
@@ -107,5 +84,5 @@ fn openings(rt: HostRuntime) {
     assert_eq!(&rt; SimMarine::regs(alloc).expect(&rt, "memory").len(), 3);
     let batch = SimMarine::opening(alloc, &craft).expect(&rt, "memory");
     let wanted = b"NAV_X=0 NAV_Y=0 NAV_HEADING=0 NAV_SPEED=0 NAV_DEPTH=0 ";
-    assert_eq!(&rt; shown(&rt, alloc, &batch).as_slice(), wanted.as_slice());
+    is_shown(&rt, alloc, &batch, wanted);
 }

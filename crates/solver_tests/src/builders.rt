@@ -2,17 +2,12 @@
 ghost use Rattle.std.specs.Prelude.{◌≡◌, ◌<◌, ◌≤ℤ◌, pos, IsTrue};
 ghost use Rattle.ivp_build.specs.Sums.{is_level_on};
 
-use crate::made::{axis, domain_of, piece};
+use crate::made::{line_of, piece};
 use ivp_build::{BuildFault, couple, room_law, uniform};
 use ivp_domain::{Domain, Point};
 use ivp_func::{Func, Piece, are_pieces_of};
 use std::alloc::Global;
 use std::process::Abort;
-
-/// A domain of one axis.
-fn line(rt: &impl Abort, points: u32) -> Domain {
-    domain_of(rt, &[axis(rt, b"a", 1_000, points)])
-}
 
 fn nothing(_: &Point) -> i64
     ensures low { pos 0 ≤ℤ result }
@@ -25,7 +20,7 @@ fn nothing(_: &Point) -> i64
 #[test]
 fn most_boxes(rt: HostRuntime) {
     for (points, fault) in [(4096, None), (4097, Some(BuildFault::TooMany))] {
-        let domain = line(&rt, points);
+        let domain = line_of(&rt, points);
         let made = uniform(rt.alloc(), &domain, 1, &|point: &Point| nothing(point));
         assert!(rt; made.err() == fault);
     }
@@ -79,7 +74,7 @@ fn summed(
     twos: u32,
     threes: u32,
 ) -> Option<BuildFault> {
-    let domain = line(rt, points);
+    let domain = line_of(rt, points);
     let one = runs(rt, alloc, &domain, twos, 2);
     let other = runs(rt, alloc, &domain, threes, 3);
     assert!(rt; one.top() <= 50_000);

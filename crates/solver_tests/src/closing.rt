@@ -34,14 +34,21 @@ impl<'a> Tray for Pile<'a> {
     }
 }
 
+/// Whether the first place of a point is in one of these nodes.
+fn is_in(nodes: &[Node], place: u32) -> bool {
+    for node in nodes {
+        if node.area.low[0] <= place && place <= node.area.high[0] {
+            return true;
+        }
+    }
+    false
+}
+
 /// The greatest key of the points whose first place is in none of these nodes, by a look at every point.
 fn greatest_outside(problem: &Problem, nodes: &[Node]) -> Option<Key> {
     let mut most = None;
     for index in 0..problem.domain().points() {
-        let place = index / 4;
-        let taken = nodes.iter().any(|node| node.area.low[0] <= place
-            && place <= node.area.high[0]);
-        if !taken {
+        if !is_in(nodes, index / 4) {
             most = greater_own(most, key_at(problem, index));
         }
     }
@@ -96,26 +103,22 @@ fn leaves(
 ) {
     let problem = two(rt, alloc);
     let outcome = close_root(rt, alloc, &problem, takes[0], takes[1]);
-    assert_eq!(rt; outcome.nodes.len(), left);
-    assert_eq!(rt; outcome.closed, closed);
-    assert_eq!(rt; outcome.own, found);
-    assert_eq!(rt; outcome.known, found.map_or(0, |key| key.sum));
-    assert_eq!(rt; greatest_outside(&problem, &outcome.nodes), found);
+    assert!(rt; outcome.nodes.len() == left && outcome.closed == closed);
+    assert!(rt; outcome.own == found);
+    let known = match found {
+        Some(key) => key.sum,
+        None => 0,
+    };
+    assert!(rt; outcome.known == known);
+    assert!(rt; greatest_outside(&problem, &outcome.nodes) == found);
 }
 
+/// All come back; all are taken; and every second: the root's child comes back, its first child is taken, and the second comes
+/// back.
 #[test]
-fn all_come_back(rt: HostRuntime) {
+fn trays(rt: HostRuntime) {
     leaves(&rt, rt.alloc(), [false, false], 0, 4, Some(key_of(75, 2)));
-}
-
-#[test]
-fn all_are_taken(rt: HostRuntime) {
     leaves(&rt, rt.alloc(), [true, true], 1, 1, None);
-}
-
-/// The root's child comes back, its first child is taken, and the second comes back.
-#[test]
-fn every_second_is_taken(rt: HostRuntime) {
     leaves(&rt, rt.alloc(), [false, true], 1, 3, Some(key_of(55, 10)));
 }
 
@@ -128,8 +131,8 @@ fn whole_tree_at_once(rt: HostRuntime) {
     let (best, mut scout) = Best::make(alloc, &problem).expect(&rt, "memory");
     let mut other = best.split(&mut scout);
     let mut own = Own { key: None };
-    assert_eq!(rt; close_whole(&problem, &best, &mut scout, &mut own), 4);
-    assert_eq!(rt; own.key, Some(key_of(75, 2)));
-    assert_eq!(rt; best.known(&mut scout), 75);
-    assert_eq!(rt; best.known(&mut other), 75);
+    assert!(rt; close_whole(&problem, &best, &mut scout, &mut own) == 4);
+    assert!(rt; own.key == Some(key_of(75, 2)));
+    assert!(rt; best.known(&mut scout) == 75);
+    assert!(rt; best.known(&mut other) == 75);
 }

@@ -1,20 +1,15 @@
 // Decisions with their certificates: solved, printed and read.
-ghost use Rattle.std.specs.Prelude.{◌≡◌, ◌<◌};
-ghost use Rattle.ivp_problem.specs.Sums.{best_of, key_at};
-
+use crate::made::greatest_key;
 use ivp_cert::{
-    Cert, Claim, Decision, Line, Path, accepted_law, accepts, certificate_law, cut, cut_by_workers,
+    Cert, Claim, Decision, accepted_law, accepts, certificate_law, cut, cut_by_workers,
     print_decision, print_decision_by_workers, printed_law, read_decision, read_problem,
 };
-use ivp_domain::{Point, Steps};
-use ivp_problem::{Key, Problem, sum_of};
-use ivp_search::best_in_one;
+use ivp_domain::Point;
+use ivp_problem::sum_of;
 use moos_io::MemSink;
 use moos_text::ReadFault;
 use std::alloc::Global;
-use std::marker::Brand;
 use std::process::Abort;
-use std::sync::ledger::{Blank, Ledger};
 
 /// One function of one piece.
 pub(crate) const LEVEL: &[u8] =
@@ -36,22 +31,6 @@ const HALVES: &[u8] =
 const HALF: &[u8] = b"ivp 1\ndomain a:0:2:3\nfunction 0.5\npiece 0 2 0 10\nend\n";
 
 const LEAST: &[u8] = b"ivp 1\ndomain a:0:2:3\nfunction 0.001\npiece 0 2 7 0\nend\n";
-
-fn greatest_by<L: Ledger>(problem: &Problem, blank: Blank) -> Key
-    requires name { blank.name ≡ L.name }
-    requires parts { blank.parts ≡ L.parts }
-    requires some { 0 < blank.parts }
-    ensures { result ≡ key_at problem.now (best_of problem.now) }
-{
-    let mut steps = Steps::<L>::new(blank);
-    best_in_one(problem, &mut steps)
-}
-
-fn greatest_key(problem: &Problem) -> Key
-    ensures { result ≡ key_at problem.now (best_of problem.now) }
-{
-    greatest_by::<Brand>(problem, Blank::new(1))
-}
 
 /// A text, and another one behind it.
 pub(crate) fn joined(rt: &impl Abort, alloc: Global, front: &[u8], rest: &[u8]) -> Vec<u8> {
@@ -119,23 +98,28 @@ const SOLVED: &[(&[u8], [u32; 4], &[u8])] = &[
     (LEAST, [0; 4], b"decision 0 0.007\ncut : 0.007 0\ndone\n"),
 ];
 
+/// The problem of a text is decided at this point and by these lines, and the certificate is accepted.
+fn is_decided(rt: &impl Abort, alloc: Global, problem: &[u8], at: [u32; 4], lines: &[u8]) {
+    let expected = joined(rt, alloc, problem, lines);
+    assert!(rt; solved(rt, alloc, problem, at, b"").bytes() == expected.as_slice());
+    assert!(rt; is_accepted(rt, alloc, &expected) == Some(true));
+}
+
 #[test]
 fn decisions_with_certificates(rt: HostRuntime) {
-    let alloc = rt.alloc();
     for (problem, at, lines) in SOLVED {
-        let expected = joined(&rt, alloc, *problem, *lines);
-        let sink = solved(&rt, alloc, *problem, *at, b"");
-        assert!(rt; sink.bytes() == expected.as_slice());
-        assert_eq!(rt; is_accepted(&rt, alloc, &expected), Some(true));
+        is_decided(&rt, rt.alloc(), *problem, *at, *lines);
     }
 }
 
 /// Whether both have the same lines.
 fn are_same(one: &Cert, other: &Cert) -> bool {
-    let is_same = |(a, b): (&Line, &Line)| {
-        a.path.all() == b.path.all() && a.sum == b.sum && a.index == b.index
-    };
-    one.len() == other.len() && one.all().iter().zip(other.all()).all(is_same)
+    for (a, b) in one.all().iter().zip(other.all()) {
+        if a.path.all() != b.path.all() || a.sum != b.sum || a.index != b.index {
+            return false;
+        }
+    }
+    one.len() == other.len()
 }
 
 #[test]
@@ -190,70 +174,37 @@ fn prefix_stands_before_each_line(rt: HostRuntime) {
     let expected =
         b"%% ivp 1\n%% domain course:0:359:360\n%% function 100\n%% piece 0 359 7 0\n%% end\n%% decision 0 700\n%% cut : 700 0\n%% done\n".as_slice();
     assert!(rt; sink.bytes() == expected);
-    assert_eq!(rt; is_accepted(&rt, rt.alloc(), expected), Some(true));
+    assert!(rt; is_accepted(&rt, rt.alloc(), expected) == Some(true));
 }
 
-/// As many functions as there may be over a domain, each of the greatest weight and of this piece.
-fn heaviest(rt: &impl Abort, alloc: Global, domain: &[u8], piece: &[u8]) -> Vec<u8> {
-    let mut text = Vec::from_slice(alloc, b"ivp 1\n").expect(rt, "memory");
-    text.extend_from_slice(domain).expect(rt, "memory");
+/// As many functions as there may be over a domain, each of the greatest weight and of this piece, and a last line.
+pub(crate) fn heaviest(
+    rt: &impl Abort,
+    alloc: Global,
+    domain: &[u8],
+    piece: &[u8],
+    last: &[u8],
+) -> Vec<u8> {
+    let mut text = joined(rt, alloc, b"ivp 1\n", domain);
     for _ in 0..64 {
         text.extend_from_slice(b"function 10000\n")
             .expect(rt, "memory");
         text.extend_from_slice(piece).expect(rt, "memory");
     }
-    text.extend_from_slice(b"end\n").expect(rt, "memory");
+    text.extend_from_slice(last).expect(rt, "memory");
     text
 }
 
+/// The greatest sum; and the most points, which take no more time and memory than few: nothing lists them.
 #[test]
-fn greatest_sum(rt: HostRuntime) {
+fn greatest_problems(rt: HostRuntime) {
     let alloc = rt.alloc();
-    let text = heaviest(
-        &rt,
-        alloc,
-        b"domain course:0:359:360\n",
-        b"piece 0 359 100000 0\n",
-    );
-    let expected = joined(
-        &rt,
-        alloc,
-        &text,
-        b"decision 0 64000000000\ncut : 64000000000 0\ndone\n",
-    );
-    let sink = solved(&rt, alloc, &text, [0; 4], b"");
-    assert!(rt; sink.bytes() == expected.as_slice());
-    assert_eq!(rt; is_accepted(&rt, alloc, &expected), Some(true));
-}
-
-/// A domain of the most points takes no more time and memory than a small one: nothing lists its points.
-#[test]
-fn most_points(rt: HostRuntime) {
-    let alloc = rt.alloc();
-    let text = heaviest(
-        &rt,
-        alloc,
-        b"domain a:0:268435455:268435456\n",
-        b"piece 0 268435455 0 0\n",
-    );
-    let expected = joined(&rt, alloc, &text, b"decision 0 0\ncut : 0 0\ndone\n");
-    let sink = solved(&rt, alloc, &text, [0; 4], b"");
-    assert!(rt; sink.bytes() == expected.as_slice());
-    assert_eq!(rt; is_accepted(&rt, alloc, &expected), Some(true));
-}
-
-#[test]
-fn lists(rt: HostRuntime) {
-    let alloc = rt.alloc();
-    let mut path = Path::new(alloc);
-    path.push(3).expect(&rt, "memory");
-    assert!(rt; path.all() == [3].as_slice());
-    let mut cert = Cert::new(alloc);
-    let line = Line {
-        path,
-        sum: 7,
-        index: 1,
-    };
-    cert.push(line).expect(&rt, "memory");
-    assert_eq!(rt; cert.all().len(), 1);
+    let domain = b"domain course:0:359:360\n";
+    let text = heaviest(&rt, alloc, domain, b"piece 0 359 100000 0\n", b"end\n");
+    let lines = b"decision 0 64000000000\ncut : 64000000000 0\ndone\n";
+    is_decided(&rt, alloc, &text, [0; 4], lines);
+    let domain = b"domain a:0:268435455:268435456\n";
+    let text = heaviest(&rt, alloc, domain, b"piece 0 268435455 0 0\n", b"end\n");
+    let lines = b"decision 0 0\ncut : 0 0\ndone\n";
+    is_decided(&rt, alloc, &text, [0; 4], lines);
 }

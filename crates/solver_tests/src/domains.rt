@@ -2,16 +2,19 @@
 ghost use Rattle.std.specs.Prelude.{◌≡◌, ◌<◌};
 
 use crate::made::{axis_from, domain_of};
+use crate::rows::{count_at, number_at};
 use ivp_domain::{
     Axis, AxisName, BoxN, Domain, DomainFault, Point, Steps, is_proper, meet, volume,
 };
+use std::alloc::Global;
 use std::marker::Brand;
 use std::process::Abort;
 use std::sync::ledger::{Blank, Ledger};
 
 #[test]
 fn names(rt: HostRuntime) {
-    assert!(rt; AxisName::new(b"course").is_some_and(|name| name.bytes() == b"course".as_slice()));
+    let name = AxisName::new(b"course").expect(&rt, "a name");
+    assert!(rt; name.bytes() == b"course".as_slice());
     assert!(rt; AxisName::new(b"A_2345678901234f").is_some());
     let bad = [
         b"".as_slice(),
@@ -26,46 +29,52 @@ fn names(rt: HostRuntime) {
     }
 }
 
-fn good(rt: &impl Abort) -> Axis {
-    axis_from(rt, b"a", 0, 1, 2)
+/// The axes of some lines: of each its name, low, high and how many points it has.
+fn axes_of(rt: &impl Abort, alloc: Global, rows: &str) -> Vec<Axis> {
+    let mut axes = Vec::new(alloc);
+    for row in rows.lines() {
+        let name = row.split_whitespace().next().unwrap_or("");
+        let points = count_at(rt, row, 3);
+        let low = number_at(rt, row, 1);
+        let high = number_at(rt, row, 2);
+        let axis = axis_from(rt, name.as_bytes(), low, high, points);
+        axes.push(axis).expect(rt, "memory");
+    }
+    axes
 }
 
-fn many(rt: &impl Abort) -> Axis {
-    axis_from(rt, b"b", 0, 1, 268_435_457)
+/// The axes of these lines make no domain, for this fault.
+fn is_refused(rt: &impl Abort, alloc: Global, rows: &str, fault: DomainFault) {
+    let axes = axes_of(rt, alloc, rows);
+    assert!(rt; 0 < axes.len() && axes.len() <= 4);
+    assert!(rt; Domain::make(&axes).err() == Some(fault), "{rows}");
 }
 
 #[test]
 fn refusals_in_order(rt: HostRuntime) {
-    let axes = [
-        good(&rt),
-        good(&rt),
-        many(&rt),
-        axis_from(&rt, b"c", 0, 1, 1),
-    ];
-    assert_eq!(rt; Domain::make(&axes).err(), Some(DomainFault::BadAxis(3)));
-    let axes = [axis_from(&rt, b"c", 5, 5, 2), axis_from(&rt, b"d", 0, 1, 1)];
-    assert_eq!(rt; Domain::make(&axes).err(), Some(DomainFault::BadAxis(0)));
-    let axes = [good(&rt), axis_from(&rt, b"d", -1_000_000_000_001, 0, 2)];
-    assert_eq!(rt; Domain::make(&axes).err(), Some(DomainFault::BadAxis(1)));
-    let axes = [good(&rt), axis_from(&rt, b"e", 0, 1_000_000_000_001, 2)];
-    assert_eq!(rt; Domain::make(&axes).err(), Some(DomainFault::BadAxis(1)));
-    let axes = [many(&rt)];
-    assert_eq!(rt; Domain::make(&axes).err(), Some(DomainFault::TooLarge));
-    let axes = [many(&rt), good(&rt), good(&rt)];
-    assert_eq!(rt; Domain::make(&axes).err(), Some(DomainFault::TooLarge));
-    let axes = [good(&rt), axis_from(&rt, b"c", 5, 6, 2), good(&rt)];
-    assert_eq!(rt; Domain::make(&axes).err(), Some(DomainFault::SameName(2)));
-    let axes = [axis_from(
-        &rt,
-        b"f",
-        -1_000_000_000_000,
-        1_000_000_000_000,
-        268_435_456,
-    )];
-    let domain = Domain::make(&axes).expect(&rt, "the most points");
-    assert_eq!(rt; domain.points(), 268_435_456);
-    assert_eq!(rt; number_of(&domain, 0, 134_217_727), Some(-3_726));
-    assert_eq!(rt; number_of(&domain, 0, 268_435_455), Some(1_000_000_000_000));
+    let alloc = rt.alloc();
+    let last = "a 0 1 2\na 0 1 2\nb 0 1 268435457\nc 0 1 1";
+    is_refused(&rt, alloc, last, DomainFault::BadAxis(3));
+    is_refused(&rt, alloc, "c 5 5 2\nd 0 1 1", DomainFault::BadAxis(0));
+    let low = "a 0 1 2\nd -1000000000001 0 2";
+    is_refused(&rt, alloc, low, DomainFault::BadAxis(1));
+    let high = "a 0 1 2\ne 0 1000000000001 2";
+    is_refused(&rt, alloc, high, DomainFault::BadAxis(1));
+    is_refused(&rt, alloc, "b 0 1 268435457", DomainFault::TooLarge);
+    let large = "b 0 1 268435457\na 0 1 2\na 0 1 2";
+    is_refused(&rt, alloc, large, DomainFault::TooLarge);
+    let same = "a 0 1 2\nc 5 6 2\na 0 1 2";
+    is_refused(&rt, alloc, same, DomainFault::SameName(2));
+}
+
+/// The most points, on the longest axis.
+#[test]
+fn most_points(rt: HostRuntime) {
+    let reach = 1_000_000_000_000;
+    let domain = domain_of(&rt, &[axis_from(&rt, b"f", -reach, reach, 268_435_456)]);
+    assert!(rt; domain.points() == 268_435_456);
+    assert!(rt; number_of(&domain, 0, 134_217_727) == Some(-3_726));
+    assert!(rt; number_of(&domain, 0, 268_435_455) == Some(reach));
 }
 
 #[test]
@@ -76,27 +85,26 @@ fn indices(rt: HostRuntime) {
         axis_from(&rt, b"d", -10, 0, 4),
     ];
     let domain = domain_of(&rt, &axes);
-    assert_eq!(rt; domain.points(), 24);
-    assert_eq!(rt; domain.axes(), 3);
+    assert!(rt; domain.points() == 24);
+    assert!(rt; domain.axes() == 3);
     for index in 0..domain.points() {
         let point = domain.point_at(index);
-        assert_eq!(rt; domain.index_of(&point), index);
+        assert!(rt; domain.index_of(&point) == index);
     }
     assert!(rt; 22 < domain.points());
-    assert_eq!(rt; domain.point_at(22), Point { at: [2, 1, 2, 0] });
+    let place = Point { at: [2, 1, 2, 0] };
+    assert!(rt; domain.point_at(22) == place);
     assert!(rt; domain.axes() == 3);
-    assert_eq!(rt; domain.axis(2).points, 4);
+    assert!(rt; domain.axis(2).points == 4);
     assert!(rt; domain.all() == axes.as_slice());
-    assert_eq!(rt;
-        domain.whole(),
-        BoxN {
-            low: [0; 4],
-            high: [2, 1, 3, 0]
-        }
-    );
+    let whole = BoxN {
+        low: [0; 4],
+        high: [2, 1, 3, 0],
+    };
+    assert!(rt; domain.whole() == whole);
     let numbers = [-10, -7, -4, 0];
     for (place, number) in numbers.iter().enumerate() {
-        assert_eq!(rt; number_of(&domain, 2, place as u32), Some(*number));
+        assert!(rt; number_of(&domain, 2, place as u32) == Some(*number));
     }
 }
 
@@ -133,9 +141,9 @@ fn boxes(rt: HostRuntime) {
     };
     assert!(rt; is_proper(&touching));
     assert!(rt; !is_proper(&empty));
-    assert_eq!(rt; meet(&a, &b), Some(touching));
-    assert_eq!(rt; meet(&a, &apart), None);
-    assert_eq!(rt; volume(&a), 15);
+    assert!(rt; meet(&a, &b) == Some(touching));
+    assert!(rt; meet(&a, &apart) == None);
+    assert!(rt; volume(&a) == 15);
 }
 
 /// Counts, and gives nothing of it back: a counter's type names its ledger.
@@ -152,5 +160,5 @@ fn count_two<L: Ledger>(blank: Blank)
 #[test]
 fn counting_takes_no_bytes(rt: HostRuntime) {
     count_two::<Brand>(Blank::new(1));
-    assert_eq!(rt; size_of::<Steps<Brand>>(), 0);
+    assert!(rt; size_of::<Steps<Brand>>() == 0);
 }

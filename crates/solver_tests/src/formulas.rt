@@ -1,12 +1,12 @@
 // Each builder at every place of small axes, against its formula.
 ghost use Rattle.std.specs.Prelude.{◌≤ℤ◌, pos, ◌≤◌, ◌<◌};
 
-use crate::shapes::{Limit, limited, line, lower, peaked, plane, steered, upper, value};
+use crate::rows::{count_at, number_at};
+use crate::shapes::{Limit, limit_of, limited, line, peak_of, peaked, plane, steered, value};
 use ivp_build::{BuildFault, Peak, flat, uniform};
 use ivp_domain::Point;
 use std::alloc::Global;
 use std::process::Abort;
-use std::test::Fail;
 
 /// An axis.
 #[derive(Clone, Copy)]
@@ -17,12 +17,13 @@ struct Scale {
     points: u32,
 }
 
-const fn axis(name: &'static [u8], low: i64, high: i64, points: u32) -> Scale {
+// The axis of a row: `course` or `depth`, its ends and how many places it has.
+fn axis_of(rt: &impl Abort, row: &'static str) -> Scale {
     Scale {
-        name,
-        low,
-        high,
-        points,
+        name: row.split_whitespace().next().unwrap_or("").as_bytes(),
+        low: number_at(rt, row, 1),
+        high: number_at(rt, row, 2),
+        points: count_at(rt, row, 3),
     }
 }
 
@@ -143,71 +144,51 @@ fn limit_value(axis: &Scale, shape: &Limit, place: u32) -> i64 {
 
 // Circles of four, five and two courses, a line of courses, and lines of odd and even numbers of depths, two of them, and
 // uneven ones.
-fn axes() -> [Scale; 8] {
-    [
-        axis(b"course", 0, 270_000, 4),
-        axis(b"course", 0, 288_000, 5),
-        axis(b"course", 0, 180_000, 2),
-        axis(b"course", 0, 350_000, 6),
-        axis(b"depth", 0, 6_000, 7),
-        axis(b"depth", -3_000, 4_000, 8),
-        axis(b"depth", 0, 90_000, 2),
-        axis(b"depth", 0, 100_001, 4),
-    ]
-}
+const AXES: &str = "course 0 270000 4
+course 0 288000 5
+course 0 180000 2
+course 0 350000 6
+depth 0 6000 7
+depth -3000 4000 8
+depth 0 90000 2
+depth 0 100001 4";
 
-const fn shape(summit: i64, peakwidth: i64, basewidth: i64, summitdelta: i64, max: i64) -> Peak {
-    Peak {
-        summit,
-        peakwidth,
-        basewidth,
-        summitdelta,
-        max,
-    }
-}
+// Of each peak SUMMIT, PEAKWIDTH, BASEWIDTH, SUMMITDELTA and MAX.
+const PEAKS: &str = "0 10000 170000 25000 100000
+90000 90000 90000 30000 100000
+180000 0 0 0 100000
+180000 0 0 100000 100000
+200000 72000 72000 100000 100000
+288000 1000000000 20000 50000 50000
+359000 20000 1000000000 12500 50000
+360000 144000 1 7 50001
+-36000 90000 45000 0 0
+400000 5000 5000 25000 99999
+3000 1000 2000 33333 100000
+-500 2000 3000 10 20
+45000 90000 180000 1 100000
+50000 100000 66667 99998 99999";
 
-fn shapes() -> [Peak; 14] {
-    [
-        shape(0, 10_000, 170_000, 25_000, 100_000),
-        shape(90_000, 90_000, 90_000, 30_000, 100_000),
-        shape(180_000, 0, 0, 0, 100_000),
-        shape(180_000, 0, 0, 100_000, 100_000),
-        shape(200_000, 72_000, 72_000, 100_000, 100_000),
-        shape(288_000, 1_000_000_000, 20_000, 50_000, 50_000),
-        shape(359_000, 20_000, 1_000_000_000, 12_500, 50_000),
-        shape(360_000, 144_000, 1, 7, 50_001),
-        shape(-36_000, 90_000, 45_000, 0, 0),
-        shape(400_000, 5_000, 5_000, 25_000, 99_999),
-        shape(3_000, 1_000, 2_000, 33_333, 100_000),
-        shape(-500, 2_000, 3_000, 10, 20),
-        shape(45_000, 90_000, 180_000, 1, 100_000),
-        shape(50_000, 100_000, 66_667, 99_998, 99_999),
-    ]
-}
-
-fn limits() -> [Limit; 12] {
-    [
-        upper(-1, 2_000, 100_000),
-        upper(0, 0, 100_000),
-        upper(2_999, 1_000_000_000, 100_000),
-        upper(3_000, 3_000, 100_000),
-        upper(180_000, 120_000, 99_999),
-        upper(1_000_000, 10_000, 7),
-        upper(33_333, 50_000, 0),
-        lower(-4_000, 2_000, 100_000),
-        lower(1, 0, 100_000),
-        lower(3_000, 3_000, 100_000),
-        lower(180_000, 120_000, 99_999),
-        lower(1_000_000, 1_000_000_000, 50_000),
-    ]
-}
+// Of each limit the end, BASEWIDTH and MAX.
+const LIMITS: &str = "upper -1 2000 100000
+upper 0 0 100000
+upper 2999 1000000000 100000
+upper 3000 3000 100000
+upper 180000 120000 99999
+upper 1000000 10000 7
+upper 33333 50000 0
+lower -4000 2000 100000
+lower 1 0 100000
+lower 3000 3000 100000
+lower 180000 120000 99999
+lower 1000000 1000000000 50000";
 
 // A peak has its formula's value at each place.
 fn peak_agrees(rt: &impl Abort, alloc: Global, axis: &Scale, shape: &Peak) {
     let domain = line(rt, axis.name, axis.low, axis.high, axis.points);
     let func = peaked(rt, alloc, &domain, shape);
     for place in 0..axis.points {
-        assert_eq!(rt; value(&func, place), Some(peak_value(axis, shape, place)));
+        assert!(rt; value(&func, place) == Some(peak_value(axis, shape, place)));
     }
 }
 
@@ -216,7 +197,7 @@ fn limit_agrees(rt: &impl Abort, alloc: Global, axis: &Scale, shape: &Limit) {
     let domain = line(rt, axis.name, axis.low, axis.high, axis.points);
     let func = limited(rt, alloc, &domain, shape);
     for place in 0..axis.points {
-        assert_eq!(rt; value(&func, place), Some(limit_value(axis, shape, place)));
+        assert!(rt; value(&func, place) == Some(limit_value(axis, shape, place)));
     }
 }
 
@@ -225,40 +206,39 @@ fn flat_agrees(rt: &impl Abort, alloc: Global, axis: &Scale) {
     let domain = line(rt, axis.name, axis.low, axis.high, axis.points);
     let func = flat(alloc, &domain, 100_000).expect(rt, "memory");
     for place in 0..axis.points {
-        assert_eq!(rt; value(&func, place), Some(100_000));
+        assert!(rt; value(&func, place) == Some(100_000));
     }
 }
 
 // The sum of two peaks, at each of four courses and four speeds.
-fn sum_agrees(rt: &impl Abort, alloc: Global, course: &Peak, speed: &Peak) -> Result<(), Fail> {
-    let func = steered(alloc, &plane(rt), course, speed)?;
-    let round = axis(b"course", 0, 270_000, 4);
-    let along = axis(b"speed", 0, 3_000, 4);
+fn sum_agrees(rt: &impl Abort, alloc: Global, course: &Peak, speed: &Peak) {
+    let func = steered(rt, alloc, &plane(rt), course, speed);
+    let round = axis_of(rt, "course 0 270000 4");
+    let along = axis_of(rt, "speed 0 3000 4");
     for index in 0..16 {
         let one = peak_value(&round, course, index / 4);
         let other = peak_value(&along, speed, index % 4);
-        assert_eq!(rt; value(&func, index), Some(one.saturating_add(other)));
+        assert!(rt; value(&func, index) == Some(one.saturating_add(other)));
     }
-    Ok(())
 }
 
 #[test]
-fn formulas(rt: HostRuntime) -> Result<(), Fail> {
-    for axis in &axes() {
-        for shape in &shapes() {
-            peak_agrees(&rt, rt.alloc(), axis, shape);
+fn formulas(rt: HostRuntime) {
+    for row in AXES.lines() {
+        let axis = axis_of(&rt, row);
+        for row in PEAKS.lines() {
+            peak_agrees(&rt, rt.alloc(), &axis, &peak_of(&rt, row));
         }
-        for shape in &limits() {
-            limit_agrees(&rt, rt.alloc(), axis, shape);
+        for row in LIMITS.lines() {
+            limit_agrees(&rt, rt.alloc(), &axis, &limit_of(&rt, row));
         }
-        flat_agrees(&rt, rt.alloc(), axis);
+        flat_agrees(&rt, rt.alloc(), &axis);
     }
-    for course in &shapes()[5..7] {
-        for speed in &shapes()[11..12] {
-            sum_agrees(&rt, rt.alloc(), course, speed)?;
-        }
-    }
-    Ok(())
+    let speed = peak_of(&rt, "-500 2000 3000 10 20");
+    let near = peak_of(&rt, "288000 1000000000 20000 50000 50000");
+    sum_agrees(&rt, rt.alloc(), &near, &speed);
+    let far = peak_of(&rt, "359000 20000 1000000000 12500 50000");
+    sum_agrees(&rt, rt.alloc(), &far, &speed);
 }
 
 // A utility of no simple form, from 0 to 99,000.
@@ -319,10 +299,7 @@ fn samples(rt: HostRuntime) {
             &rt, "a sample",
         );
         for index in 0..16 {
-            assert_eq!(rt;
-                value(&func, index),
-                Some(uniform_value(size, index / 4, index % 4))
-            );
+            assert!(rt; value(&func, index) == Some(uniform_value(size, index / 4, index % 4)));
         }
     }
 }

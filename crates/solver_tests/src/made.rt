@@ -1,9 +1,15 @@
 // Problems and their parts, as several tests make them, if memory is left.
-use ivp_domain::{Axis, AxisName, BoxN, Domain};
+ghost use Rattle.std.specs.Prelude.{◌≡◌, ◌<◌};
+ghost use Rattle.ivp_problem.specs.Sums.{best_of, key_at};
+
+use ivp_domain::{Axis, AxisName, BoxN, Domain, Steps};
 use ivp_func::{Func, Piece, are_pieces_of};
 use ivp_problem::{Key, Problem, Term, greater_own, key_of, sum_at};
+use ivp_search::best_in_one;
 use std::alloc::Global;
+use std::marker::Brand;
 use std::process::Abort;
+use std::sync::ledger::{Blank, Ledger};
 
 /// A term of these pieces, if they make a function.
 pub(crate) fn term(
@@ -59,6 +65,11 @@ pub(crate) fn axis(rt: &impl Abort, name: &[u8], high: i64, points: u32) -> Axis
 pub(crate) fn domain_of(rt: &impl Abort, axes: &[Axis]) -> Domain {
     assert!(rt; 0 < axes.len() && axes.len() <= 4);
     Domain::make(axes).expect(rt, "a domain")
+}
+
+/// A domain of one axis, a metre long, of so many points.
+pub(crate) fn line_of(rt: &impl Abort, points: u32) -> Domain {
+    domain_of(rt, &[axis(rt, b"a", 1_000, points)])
 }
 
 /// The domain a:0:2:3, b:0:1:2, d:0:1:2.
@@ -165,4 +176,22 @@ pub(crate) fn listed(problem: &Problem) -> Option<Key> {
         most = greater_own(most, key_at(problem, index));
     }
     most
+}
+
+/// The greatest key, counted by a ledger of its own.
+fn greatest_by<L: Ledger>(problem: &Problem, blank: Blank) -> Key
+    requires name { blank.name ≡ L.name }
+    requires parts { blank.parts ≡ L.parts }
+    requires some { 0 < blank.parts }
+    ensures { result ≡ key_at problem.now (best_of problem.now) }
+{
+    let mut steps = Steps::<L>::new(blank);
+    best_in_one(problem, &mut steps)
+}
+
+/// The greatest key, by the search of one thread.
+pub(crate) fn greatest_key(problem: &Problem) -> Key
+    ensures { result ≡ key_at problem.now (best_of problem.now) }
+{
+    greatest_by::<Brand>(problem, Blank::new(1))
 }

@@ -1,9 +1,11 @@
 // Files of problems: what they give, and what is refused.
+use crate::decisions::heaviest;
+use crate::rows::{is_refused, text_of};
 use ivp_cert::read_problem;
 use ivp_domain::{Axis, BoxN};
 use ivp_func::{Func, Piece};
 use ivp_problem::Problem;
-use moos_text::{Cause, ReadFault};
+use moos_text::ReadFault;
 use std::alloc::Global;
 use std::process::Abort;
 
@@ -50,10 +52,10 @@ fn one_function(rt: HostRuntime) {
     let text = b"ivp 1\ndomain course:0:359:360\nfunction 100\npiece 0 359 7 0\nend\n";
     let problem = read(&rt, rt.alloc(), text).expect(&rt, "a problem");
     let domain = problem.domain();
-    assert_eq!(rt; domain.axes(), 1);
+    assert!(rt; domain.axes() == 1);
     assert!(rt; 0 < domain.axes());
     assert!(rt; is_axis(&domain.axis(0), b"course", 0, 359_000, 360));
-    assert_eq!(rt; problem.len(), 1);
+    assert!(rt; problem.len() == 1);
     assert!(rt; is_term(&problem, 0, 100_000, &[piece(0, 359, 0, 7, [0, 0])]));
 }
 
@@ -62,8 +64,8 @@ fn two_functions(rt: HostRuntime) {
     let text =
         b"ivp 1\ndomain a:0:2:3\ndomain b:0:1:2\ndomain d:0:1:2\nfunction 2\npiece 0 2 0 1 0 1 0 10 0 0\nfunction 3\npiece 0 0 0 1 0 1 20 0 5 0\npiece 1 2 0 1 0 1 0 0 5 0\nend\n";
     let problem = read(&rt, rt.alloc(), text).expect(&rt, "a problem");
-    assert_eq!(rt; problem.domain().axes(), 3);
-    assert_eq!(rt; problem.len(), 2);
+    assert!(rt; problem.domain().axes() == 3);
+    assert!(rt; problem.len() == 2);
     assert!(rt; is_term(&problem, 0, 2_000, &[piece(0, 2, 1, 0, [10, 0])]));
     let split = [piece(0, 0, 1, 20, [0, 5]), piece(1, 2, 1, 0, [0, 5])];
     assert!(rt; is_term(&problem, 1, 3_000, &split));
@@ -80,193 +82,79 @@ fn written_otherwise(rt: HostRuntime) {
     assert!(rt; is_term(&problem, 0, 1_000, &[piece(0, 1, 0, 7, [-7, 0])]));
 }
 
-// Files that are no problem, and the line and the cause of the refusal of each.
-const REFUSED: &[(&[u8], u32, Cause)] = &[
-    // A line outside the form or the order.
-    (b"\ndomain a:0:1:2\n", 2, Cause::P1),
-    (b"ivp 2\n", 1, Cause::P1),
-    (b"ivp 1 1\n", 1, Cause::P1),
-    (b"ivp 1 // one\n", 1, Cause::P1),
-    (b"%%\nivp 1\n", 1, Cause::P1),
-    (b"%% %% ivp 1\n", 1, Cause::P1),
-    (b"ivp 1\nend\n", 2, Cause::P1),
-    (b"ivp 1\nfunction 1\n", 2, Cause::P1),
-    (b"ivp 1\ndomain a:0:1:2 b:0:1:2\n", 2, Cause::P1),
-    (b"ivp 1\ndomain a:0:1:2\npiece 0 1 0 0\n", 3, Cause::P1),
-    (b"ivp 1\ndomain a:0:1:2\nfunction\n", 3, Cause::P1),
-    (b"ivp 1\ndomain a:0:1:2\nend now\n", 3, Cause::P1),
-    (
-        b"ivp 1\ndomain a:0:1:2\nfunction 1\ndomain b:0:1:2\n",
-        4,
-        Cause::P1,
-    ),
-    (
-        b"ivp 1\ndomain a:0:1:2\nfunction 1\npiece 0 1 0\n",
-        4,
-        Cause::P1,
-    ),
-    (
-        b"ivp 1\ndomain a:0:1:2\nfunction 1\npiece 0 1 0 1 0 0 0\n",
-        4,
-        Cause::P1,
-    ),
-    (
-        b"ivp 1\ndomain a:0:1:2\nfunction 1\npiece -0 1 0 0\n",
-        4,
-        Cause::P1,
-    ),
-    (
-        b"ivp 1\ndomain a:0:1:2\nfunction 1\npiece 0 1 - 0\n",
-        4,
-        Cause::P1,
-    ),
-    (
-        b"ivp 1\ndomain a:0:1:2\nfunction 1\npiece 0 1 +1 0\n",
-        4,
-        Cause::P1,
-    ),
-    (
-        b"ivp 1\ndomain a:0:1:2\nfunction 1\npiece 0 4294967296 0 0\n",
-        4,
-        Cause::P1,
-    ),
-    (
-        b"ivp 1\ndomain a:0:1:2\nfunction 1\npiece 0 1 -100000000000001 0\n",
-        4,
-        Cause::P1,
-    ),
-    (
-        b"ivp 1\ndomain a:0:1:2\nfunction 1\npiece 0 1 0 100001\n",
-        4,
-        Cause::P1,
-    ),
-    (
-        b"ivp 1\ndomain a:0:1:2\nfunction 1\npiece 0 1 0 0\nend\n\nend\n",
-        7,
-        Cause::P1,
-    ),
-    // An axis.
-    (b"ivp 1\ndomain a:0:1\n", 2, Cause::P2),
-    (b"ivp 1\ndomain a:0:1:2:3\n", 2, Cause::P2),
-    (b"ivp 1\ndomain a,0,1,2\n", 2, Cause::P2),
-    (b"ivp 1\ndomain 1a:0:1:2\n", 2, Cause::P2),
-    (b"ivp 1\ndomain a:0:1:1\n", 2, Cause::P2),
-    (b"ivp 1\ndomain a:0:1:2.5\n", 2, Cause::P2),
-    (b"ivp 1\ndomain a:1:1:2\n", 2, Cause::P2),
-    (
-        b"ivp 1\ndomain a:0:1:2\ndomain A:0:1:2\ndomain a:0:1:2\n",
-        4,
-        Cause::P2,
-    ),
-    (
-        b"ivp 1\ndomain a:0:1:2\ndomain b:0:1:2\ndomain c:0:1:2\ndomain d:0:1:2\ndomain e:0:1:2\n",
-        6,
-        Cause::P2,
-    ),
-    (
-        b"ivp 1\ndomain a:0:1:16384\ndomain b:0:1:16385\n",
-        3,
-        Cause::P2,
-    ),
-    (b"ivp 1\ndomain a:0:268435456:268435457\n", 2, Cause::P2),
-    // A box.
-    (
-        b"ivp 1\ndomain course:0:359:360\nfunction 100\npiece 0 360 7 0\nend\n",
-        4,
-        Cause::P3,
-    ),
-    (
-        b"ivp 1\ndomain a:0:1:2\nfunction 1\npiece 1 0 0 0\n",
-        4,
-        Cause::P3,
-    ),
-    (
-        b"ivp 1\ndomain a:0:1:2\ndomain b:0:1:2\nfunction 1\npiece 0 1 0 2 0 0 0\n",
-        5,
-        Cause::P3,
-    ),
-    // Pieces that are no partition, before a value out of range and before all else of the line.
-    (
-        b"ivp 1\ndomain a:0:1:2\nfunction 1\n\nfunction\n",
-        3,
-        Cause::P4,
-    ),
-    (
-        b"ivp 1\ndomain a:0:1:2\nfunction 1\npiece 0 1 -1 0\npiece 1 1 0 0\nend now\n",
-        3,
-        Cause::P4,
-    ),
-    (
-        b"ivp 1\ndomain a:0:1:2\nfunction 1\npiece 0 1 0 0\nfunction 1\npiece 0 0 0 0\nend\n",
-        5,
-        Cause::P4,
-    ),
-    // A value out of range.
-    (
-        b"ivp 1\ndomain course:0:359:360\nfunction 100\npiece 0 359 7 300\nend\n",
-        3,
-        Cause::P5,
-    ),
-    (
-        b"ivp 1\ndomain a:0:1:2\nfunction 1\npiece 0 1 6 -7\nfunction 0\n",
-        3,
-        Cause::P5,
-    ),
-    // A weight.
-    (b"ivp 1\ndomain a:0:1:2\nfunction 0\n", 3, Cause::P6),
-    (b"ivp 1\ndomain a:0:1:2\nfunction 0.0009\n", 3, Cause::P6),
-    (b"ivp 1\ndomain a:0:1:2\nfunction -1\n", 3, Cause::P6),
-    (b"ivp 1\ndomain a:0:1:2\nfunction 10000.001\n", 3, Cause::P6),
-    (b"ivp 1\ndomain a:0:1:2\nfunction one\n", 3, Cause::P6),
-    // No function.
-    (b"ivp 1\ndomain course:0:359:360\nend\n", 3, Cause::P8),
-    (b"ivp 1\n\ndomain a:0:1:2\n\nend\nend\n", 5, Cause::P8),
-    // No end.
-    (b"", 1, Cause::P9),
-    (b"\n", 1, Cause::P9),
-    (b"ivp 1\ndomain a:0:1:2\nfunction 1\n\n\n", 5, Cause::P9),
-];
+// Files that are no problem, and before each the line and the cause of its refusal: a line outside the form or the order (P1), an
+// axis (P2), a box (P3), pieces that are no partition, before a value out of range and before all else of the line (P4), a value
+// out of range (P5), a weight (P6), no function (P8) and no end (P9).
+const REFUSED: &str = "2 P1 |domain a:0:1:2|
+1 P1 ivp 2|
+1 P1 ivp 1 1|
+1 P1 ivp 1 // one|
+1 P1 %%|ivp 1|
+1 P1 %% %% ivp 1|
+2 P1 ivp 1|end|
+2 P1 ivp 1|function 1|
+2 P1 ivp 1|domain a:0:1:2 b:0:1:2|
+3 P1 ivp 1|domain a:0:1:2|piece 0 1 0 0|
+3 P1 ivp 1|domain a:0:1:2|function|
+3 P1 ivp 1|domain a:0:1:2|end now|
+4 P1 ivp 1|domain a:0:1:2|function 1|domain b:0:1:2|
+4 P1 ivp 1|domain a:0:1:2|function 1|piece 0 1 0|
+4 P1 ivp 1|domain a:0:1:2|function 1|piece 0 1 0 1 0 0 0|
+4 P1 ivp 1|domain a:0:1:2|function 1|piece -0 1 0 0|
+4 P1 ivp 1|domain a:0:1:2|function 1|piece 0 1 - 0|
+4 P1 ivp 1|domain a:0:1:2|function 1|piece 0 1 +1 0|
+4 P1 ivp 1|domain a:0:1:2|function 1|piece 0 4294967296 0 0|
+4 P1 ivp 1|domain a:0:1:2|function 1|piece 0 1 -100000000000001 0|
+4 P1 ivp 1|domain a:0:1:2|function 1|piece 0 1 0 100001|
+7 P1 ivp 1|domain a:0:1:2|function 1|piece 0 1 0 0|end||end|
+2 P2 ivp 1|domain a:0:1|
+2 P2 ivp 1|domain a:0:1:2:3|
+2 P2 ivp 1|domain a,0,1,2|
+2 P2 ivp 1|domain 1a:0:1:2|
+2 P2 ivp 1|domain a:0:1:1|
+2 P2 ivp 1|domain a:0:1:2.5|
+2 P2 ivp 1|domain a:1:1:2|
+4 P2 ivp 1|domain a:0:1:2|domain A:0:1:2|domain a:0:1:2|
+6 P2 ivp 1|domain a:0:1:2|domain b:0:1:2|domain c:0:1:2|domain d:0:1:2|domain e:0:1:2|
+3 P2 ivp 1|domain a:0:1:16384|domain b:0:1:16385|
+2 P2 ivp 1|domain a:0:268435456:268435457|
+4 P3 ivp 1|domain course:0:359:360|function 100|piece 0 360 7 0|end|
+4 P3 ivp 1|domain a:0:1:2|function 1|piece 1 0 0 0|
+5 P3 ivp 1|domain a:0:1:2|domain b:0:1:2|function 1|piece 0 1 0 2 0 0 0|
+3 P4 ivp 1|domain a:0:1:2|function 1||function|
+3 P4 ivp 1|domain a:0:1:2|function 1|piece 0 1 -1 0|piece 1 1 0 0|end now|
+5 P4 ivp 1|domain a:0:1:2|function 1|piece 0 1 0 0|function 1|piece 0 0 0 0|end|
+3 P5 ivp 1|domain course:0:359:360|function 100|piece 0 359 7 300|end|
+3 P5 ivp 1|domain a:0:1:2|function 1|piece 0 1 6 -7|function 0|
+3 P6 ivp 1|domain a:0:1:2|function 0|
+3 P6 ivp 1|domain a:0:1:2|function 0.0009|
+3 P6 ivp 1|domain a:0:1:2|function -1|
+3 P6 ivp 1|domain a:0:1:2|function 10000.001|
+3 P6 ivp 1|domain a:0:1:2|function one|
+3 P8 ivp 1|domain course:0:359:360|end|
+5 P8 ivp 1||domain a:0:1:2||end|end|
+1 P9
+1 P9 |
+5 P9 ivp 1|domain a:0:1:2|function 1|||";
 
 #[test]
 fn refusals(rt: HostRuntime) {
-    let alloc = rt.alloc();
-    for (text, line, cause) in REFUSED {
-        let fault = read(&rt, alloc, *text).err();
-        let wanted = ReadFault::At {
-            line: *line,
-            cause: *cause,
-        };
-        assert_eq!(rt; fault, Some(wanted), "{text:?}");
+    for row in REFUSED.lines() {
+        let text = text_of(&rt, rt.alloc(), b"", row, 2);
+        is_refused(&rt, read(&rt, rt.alloc(), &text).err(), row);
     }
 }
 
-// `count` functions over two points.
-fn functions(rt: &impl Abort, alloc: Global, count: u32) -> Vec<u8> {
-    let mut text = Vec::new(alloc);
-    text.extend_from_slice(b"ivp 1\ndomain a:0:1:2\n")
-        .expect(rt, "memory");
-    for _ in 0..count {
-        text.extend_from_slice(b"function 10000\npiece 0 1 100000 0\n")
-            .expect(rt, "memory");
-    }
-    text
-}
-
+// Behind 64 functions, which may be, one more is refused before its weight is read.
 #[test]
 fn most_functions(rt: HostRuntime) {
-    let alloc = rt.alloc();
-    let mut text = functions(&rt, alloc, 64);
-    text.extend_from_slice(b"end\n").expect(&rt, "memory");
-    let problem = read(&rt, alloc, &text).expect(&rt, "a problem");
-    assert_eq!(rt; problem.len(), 64);
-    let mut text = functions(&rt, alloc, 64);
-    text.extend_from_slice(b"function 0\n")
-        .expect(&rt, "memory");
-    let refused = ReadFault::At {
-        line: 131,
-        cause: Cause::P7,
-    };
-    assert_eq!(rt; read(&rt, alloc, &text).err(), Some(refused));
+    let domain = b"domain a:0:1:2\n";
+    let piece = b"piece 0 1 100000 0\n";
+    let text = heaviest(&rt, rt.alloc(), domain, piece, b"end\n");
+    let problem = read(&rt, rt.alloc(), &text).expect(&rt, "a problem");
+    assert!(rt; problem.len() == 64);
+    let text = heaviest(&rt, rt.alloc(), domain, piece, b"function 0\n");
+    is_refused(&rt, read(&rt, rt.alloc(), &text).err(), "131 P7");
 }
 
 // A function of `count` pieces, each of one point, over 4,096 points.
@@ -288,11 +176,7 @@ fn most_pieces(rt: HostRuntime) {
     text.extend_from_slice(b"end\n").expect(&rt, "memory");
     let problem = read(&rt, alloc, &text).expect(&rt, "a problem");
     assert!(rt; 0 < problem.len());
-    assert_eq!(rt; problem.func(0).len(), 4096);
+    assert!(rt; problem.func(0).len() == 4096);
     let text = pieces(&rt, alloc, 4097);
-    let refused = ReadFault::At {
-        line: 4100,
-        cause: Cause::P7,
-    };
-    assert_eq!(rt; read(&rt, alloc, &text).err(), Some(refused));
+    is_refused(&rt, read(&rt, alloc, &text).err(), "4100 P7");
 }

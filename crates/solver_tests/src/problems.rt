@@ -5,7 +5,8 @@ ghost use Rattle.ivp_problem.specs.Trees.{IsNode};
 use crate::made::{
     axis, course, domain_of, level_terms, piece, problem, problem_of, slab, sum, term, twelve, two,
 };
-use ivp_domain::{BoxN, Domain};
+use crate::rows::count_at;
+use ivp_domain::Domain;
 use ivp_problem::{
     Node, Problem, ProblemFault, Term, at_most, best_law, bound_law, bound_of, children_law,
     greater_own, index_of_key, key_of, keys_law, reaches, sum_of,
@@ -27,46 +28,37 @@ fn levels(rt: &impl Abort, alloc: Global, count: u32, weight: u32) -> Vec<Term> 
     level_terms(rt, alloc, count, weight, 100_000)
 }
 
-/// These terms and one more.
-fn then(rt: &impl Abort, terms: Vec<Term>, last: Term) -> Vec<Term> {
-    let mut terms = terms;
+/// So many functions of one weight over the course, and one more.
+fn then(rt: &impl Abort, alloc: Global, count: u32, weight: u32, last: Term) -> Vec<Term> {
+    let mut terms = levels(rt, alloc, count, weight);
     terms.push(last).expect(rt, "memory");
     terms
 }
 
-/// The fault of the terms over a domain.
-fn fault(domain: Domain, terms: Vec<Term>) -> Option<ProblemFault> {
-    Problem::make(domain, terms).err()
+/// The terms make no problem over a domain, for this fault.
+fn is_refused(rt: &impl Abort, domain: Domain, terms: Vec<Term>, fault: ProblemFault) {
+    assert!(rt;
+        Problem::make(domain, terms).err() == Some(fault),
+        "{fault:?}"
+    );
 }
 
+/// A domain of another name is another domain.
 #[test]
 fn refusals_in_order(rt: HostRuntime) {
     let alloc = rt.alloc();
-    let none = Vec::new(alloc);
-    assert_eq!(rt; fault(twelve(&rt), none), Some(ProblemFault::NoFunction));
-    let many = levels(&rt, alloc, 65, 0);
-    assert_eq!(rt; fault(twelve(&rt), many), Some(ProblemFault::TooMany));
-    let terms = then(
-        &rt,
-        levels(&rt, alloc, 2, 10_000_000),
-        level(&rt, alloc, 10_000_001),
-    );
-    assert_eq!(rt; fault(twelve(&rt), terms), Some(ProblemFault::BadWeight(2)));
-    let terms = then(&rt, levels(&rt, alloc, 1, 1), level(&rt, alloc, 0));
-    assert_eq!(rt; fault(course(&rt), terms), Some(ProblemFault::BadWeight(1)));
-    let terms = then(&rt, levels(&rt, alloc, 1, 10_000_000), rising(&rt, alloc));
-    assert_eq!(rt;
-        fault(course(&rt), terms),
-        Some(ProblemFault::OtherDomain(1))
-    );
-}
-
-/// The same axes but for one name: another domain.
-#[test]
-fn another_name(rt: HostRuntime) {
-    let domain = domain_of(&rt, &[axis(&rt, b"coarse", 359_000, 360)]);
-    let terms = levels(&rt, rt.alloc(), 1, 1);
-    assert_eq!(rt; fault(domain, terms), Some(ProblemFault::OtherDomain(0)));
+    is_refused(&rt, twelve(&rt), Vec::new(alloc), ProblemFault::NoFunction);
+    let terms = levels(&rt, alloc, 65, 0);
+    is_refused(&rt, twelve(&rt), terms, ProblemFault::TooMany);
+    let terms = then(&rt, alloc, 2, 10_000_000, level(&rt, alloc, 10_000_001));
+    is_refused(&rt, twelve(&rt), terms, ProblemFault::BadWeight(2));
+    let terms = then(&rt, alloc, 1, 1, level(&rt, alloc, 0));
+    is_refused(&rt, course(&rt), terms, ProblemFault::BadWeight(1));
+    let terms = then(&rt, alloc, 1, 10_000_000, rising(&rt, alloc));
+    is_refused(&rt, course(&rt), terms, ProblemFault::OtherDomain(1));
+    let coarse = domain_of(&rt, &[axis(&rt, b"coarse", 359_000, 360)]);
+    let terms = levels(&rt, alloc, 1, 1);
+    is_refused(&rt, coarse, terms, ProblemFault::OtherDomain(0));
 }
 
 /// The sum and the index of a node's bound.
@@ -89,38 +81,66 @@ fn child(problem: &Problem, node: &Node, piece: u32) -> Option<Node>
     }
 }
 
+// Indices of points and the sums there.
+const SUMS: &str = "0 60
+2 75
+3 75
+4 20
+10 55
+11 55";
+
+/// Two functions over twelve points, and their sums.
+fn has_sums(rt: &impl Abort, problem: &Problem) {
+    assert!(rt; problem.domain() == twelve(rt));
+    assert!(rt; 1 < problem.len());
+    assert!(rt; problem.len() == 2 && problem.weight(1) == 3);
+    assert!(rt; problem.func(1).len() == 2);
+    for row in SUMS.lines() {
+        let told = sum(problem, count_at(rt, row, 0));
+        assert!(rt; told == Some(count_at(rt, row, 1) as u64), "{row}");
+    }
+}
+
+/// The root, its child, and that one's two.
+fn has_nodes(rt: &impl Abort, problem: &Problem) {
+    let root = problem.root();
+    assert!(rt; bound(problem, &root) == (115, 0));
+    let first = child(problem, &root, 0).expect(rt, "a child");
+    assert!(rt; bound(problem, &first) == (115, 0));
+    let left = child(problem, &first, 0).expect(rt, "a child");
+    assert!(rt; bound(problem, &left) == (75, 2));
+    let right = child(problem, &first, 1).expect(rt, "a child");
+    let expected = Node {
+        depth: 2,
+        area: slab(1, 2, 0, [0; 4]).area,
+        base: 0,
+        slope: [20, 15, 0, 0],
+    };
+    assert!(rt; right == expected && bound(problem, &right) == (55, 10));
+}
+
 #[test]
 fn two_functions(rt: HostRuntime) {
     let problem = two(&rt, rt.alloc());
     keys_law(&problem);
     best_law(&problem);
-    assert!(rt; problem.domain() == twelve(&rt));
-    assert_eq!(rt; problem.len(), 2);
-    assert!(rt; 1 < problem.len());
-    assert_eq!(rt; problem.weight(1), 3);
-    assert_eq!(rt; problem.func(1).len(), 2);
-    let sums = [(0, 60), (2, 75), (3, 75), (4, 20), (10, 55), (11, 55)];
-    for (index, expected) in sums {
-        assert_eq!(rt; sum(&problem, index), Some(expected));
+    has_sums(&rt, &problem);
+    has_nodes(&rt, &problem);
+}
+
+/// The root's child has one child, since the other piece doesn't meet it.
+fn has_one_child(rt: &impl Abort, problem: &Problem) {
+    let first = child(problem, &problem.root(), 0).expect(rt, "a child");
+    if first.depth < problem.len() {
+        children_law(problem, &first);
     }
-    let root = problem.root();
-    assert_eq!(rt; bound(&problem, &root), (115, 0));
-    let first = child(&problem, &root, 0).expect(&rt, "a child");
-    assert_eq!(rt; bound(&problem, &first), (115, 0));
-    let left = child(&problem, &first, 0).expect(&rt, "a child");
-    let right = child(&problem, &first, 1).expect(&rt, "a child");
-    let expected = Node {
-        depth: 2,
-        area: BoxN {
-            low: [1, 0, 0, 0],
-            high: [2, 1, 1, 0],
-        },
-        base: 0,
-        slope: [20, 15, 0, 0],
-    };
-    assert!(rt; right == expected);
-    assert_eq!(rt; bound(&problem, &left), (75, 2));
-    assert_eq!(rt; bound(&problem, &right), (55, 10));
+    assert!(rt; child(problem, &first, 1).is_none());
+    let met = child(problem, &first, 0).expect(rt, "a child");
+    if met.depth >= problem.len() {
+        bound_law(problem, &met);
+        assert!(rt; problem.best_corner(&met).at == [0, 1, 0, 0]);
+    }
+    assert!(rt; bound(problem, &met) == (150, 2));
 }
 
 #[test]
@@ -128,29 +148,18 @@ fn pieces_apart(rt: HostRuntime) {
     let split = [slab(0, 0, 20, [0, 5, 0, 0]), slab(1, 2, 0, [0, 5, 0, 0])];
     let all = [(3, split.as_slice()), (3, split.as_slice())];
     let problem = problem_of(&rt, rt.alloc(), twelve(&rt), &all);
-    let root = problem.root();
-    let first = child(&problem, &root, 0).expect(&rt, "a child");
-    if first.depth < problem.len() {
-        children_law(&problem, &first);
-    }
-    assert!(rt; child(&problem, &first, 1).is_none());
-    let met = child(&problem, &first, 0).expect(&rt, "a child");
-    if met.depth >= problem.len() {
-        bound_law(&problem, &met);
-        assert!(rt; problem.best_corner(&met).at == [0, 1, 0, 0]);
-    }
-    assert_eq!(rt; bound(&problem, &met), (150, 2));
+    has_one_child(&rt, &problem);
 }
 
 #[test]
 fn greatest_sum(rt: HostRuntime) {
     let terms = levels(&rt, rt.alloc(), 64, 10_000_000);
     let problem = problem(&rt, course(&rt), terms);
-    assert_eq!(rt; sum(&problem, 359), Some(64_000_000_000_000));
-    assert_eq!(rt; bound(&problem, &problem.root()), (64_000_000_000_000, 0));
+    assert!(rt; sum(&problem, 359) == Some(64_000_000_000_000));
+    assert!(rt; bound(&problem, &problem.root()) == (64_000_000_000_000, 0));
     let key = key_of(64_000_000_000_000, 268_435_455);
-    assert_eq!(rt; sum_of(key), 64_000_000_000_000);
-    assert_eq!(rt; index_of_key(key), 268_435_455);
+    assert!(rt; sum_of(key) == 64_000_000_000_000);
+    assert!(rt; index_of_key(key) == 268_435_455);
 }
 
 /// The greater sum has the greater key, of equal sums the lesser index, and each key is greater than none.
@@ -161,10 +170,10 @@ fn keys_in_order(rt: HostRuntime) {
     for key in rising {
         assert!(rt; !reaches(own, key));
         own = greater_own(own, Some(key));
-        assert_eq!(rt; own, Some(key));
+        assert!(rt; own == Some(key));
         assert!(rt; reaches(own, rising[0]));
         assert!(rt; at_most(rising[0], key) && at_most(key, rising[3]));
-        assert_eq!(rt; greater_own(Some(rising[3]), own), Some(rising[3]));
-        assert_eq!(rt; greater_own(own, None), own);
+        assert!(rt; greater_own(Some(rising[3]), own) == Some(rising[3]));
+        assert!(rt; greater_own(own, None) == own);
     }
 }

@@ -4,6 +4,7 @@ ghost use Rattle.ivp_domain.specs.Domains.{is_point};
 ghost use Rattle.ivp_build.specs.Shapes.{IsPeak};
 
 use crate::made::{axis, axis_from, domain_of};
+use crate::rows::number_at;
 use ivp_build::{Peak, at_least, at_most, couple, flat, peak};
 use ivp_domain::{Domain, Point, Steps};
 use ivp_func::Func;
@@ -11,7 +12,6 @@ use std::alloc::Global;
 use std::marker::Brand;
 use std::process::Abort;
 use std::sync::ledger::{Blank, Ledger};
-use std::test::Fail;
 
 /// A domain of one axis.
 pub(crate) fn line(rt: &impl Abort, name: &[u8], low: i64, high: i64, points: u32) -> Domain {
@@ -64,70 +64,59 @@ pub(crate) fn limited(rt: &impl Abort, alloc: Global, domain: &Domain, shape: &L
     made.expect(rt, "memory")
 }
 
-pub(crate) const fn upper(limit: i64, basewidth: i64, max: i64) -> Limit {
+/// The limit of a row: `upper` or `lower`, and its three numbers.
+pub(crate) fn limit_of(rt: &impl Abort, row: &str) -> Limit {
     Limit {
-        upper: true,
-        limit,
-        basewidth,
-        max,
+        upper: row.starts_with("upper "),
+        limit: number_at(rt, row, 1),
+        basewidth: number_at(rt, row, 2),
+        max: number_at(rt, row, 3),
     }
 }
 
-pub(crate) const fn lower(limit: i64, basewidth: i64, max: i64) -> Limit {
-    Limit {
-        upper: false,
-        limit,
-        basewidth,
-        max,
+/// A function over five points has the values that a row says from this word on.
+fn has_values(rt: &impl Abort, func: &Func, row: &str, words: usize) {
+    for place in 0..5u32 {
+        let expected = number_at(rt, row, words.saturating_add(place as usize));
+        assert!(rt; value(func, place) == Some(expected), "{row}");
     }
 }
+
+// Limits on five depths from 10 to 50, and their values there.
+const LIMITS: &str = "upper 0 20000 100000 : 100000 50000 0 0 0
+upper 30000 20000 100000 : 100000 100000 100000 50000 0
+upper 39999 20000 7 : 7 7 7 4 1
+upper 60000 20000 100000 : 100000 100000 100000 100000 100000
+upper 10000 0 100000 : 100000 0 0 0 0
+upper 10000 1000000 100000 : 100000 99000 98000 97000 96000
+upper 20000 20000 0 : 0 0 0 0 0
+lower 30001 20000 100000 : 0 0 50000 100000 100000
+lower 60000 20000 7 : 0 0 1 4 7
+lower 0 20000 100000 : 100000 100000 100000 100000 100000";
 
 #[test]
 fn limits(rt: HostRuntime) {
     let domain = line(&rt, b"depth", 10_000, 50_000, 5);
-    let table = [
-        (upper(0, 20_000, 100_000), [100_000, 50_000, 0, 0, 0]),
-        (
-            upper(30_000, 20_000, 100_000),
-            [100_000, 100_000, 100_000, 50_000, 0],
-        ),
-        (upper(39_999, 20_000, 7), [7, 7, 7, 4, 1]),
-        (upper(60_000, 20_000, 100_000), [100_000; 5]),
-        (upper(10_000, 0, 100_000), [100_000, 0, 0, 0, 0]),
-        (
-            upper(10_000, 1_000_000, 100_000),
-            [100_000, 99_000, 98_000, 97_000, 96_000],
-        ),
-        (upper(20_000, 20_000, 0), [0; 5]),
-        (
-            lower(30_001, 20_000, 100_000),
-            [0, 0, 50_000, 100_000, 100_000],
-        ),
-        (lower(60_000, 20_000, 7), [0, 0, 1, 4, 7]),
-        (lower(0, 20_000, 100_000), [100_000; 5]),
-    ];
-    for (limit, values) in &table {
-        let func = limited(&rt, rt.alloc(), &domain, limit);
-        for (place, expected) in values.iter().enumerate() {
-            assert_eq!(rt; value(&func, place as u32), Some(*expected));
-        }
+    for row in LIMITS.lines() {
+        let func = limited(&rt, rt.alloc(), &domain, &limit_of(&rt, row));
+        has_values(&rt, &func, row, 5);
     }
     let level = flat(rt.alloc(), &domain, 7).expect(&rt, "memory");
-    assert_eq!(rt; level.len(), 1);
-    assert_eq!(rt; value(&level, 4), Some(7));
+    assert!(rt; level.len() == 1 && value(&level, 4) == Some(7));
 }
 
 /// On the most points of an axis a thousandth long, a width spans more places than 64 bits count, and a step is one place.
 #[test]
 fn limits_on_the_most_points(rt: HostRuntime) {
     let domain = line(&rt, b"depth", 0, 1, 268_435_456);
-    let wide = limited(&rt, rt.alloc(), &domain, &upper(0, 1_000_000_000_000, 7));
-    let steep = limited(&rt, rt.alloc(), &domain, &lower(1, 0, 7));
-    let rows = [(0, 7, 0), (268_435_454, 7, 0), (268_435_455, 7, 7)];
-    for (place, most, least) in rows {
-        assert_eq!(rt; value(&wide, place), Some(most));
-        assert_eq!(rt; value(&steep, place), Some(least));
-    }
+    let wide = limit_of(&rt, "upper 0 1000000000000 7");
+    let func = limited(&rt, rt.alloc(), &domain, &wide);
+    assert!(rt; value(&func, 0) == Some(7) && value(&func, 268_435_454) == Some(7));
+    assert!(rt; value(&func, 268_435_455) == Some(7));
+    let steep = limit_of(&rt, "lower 1 0 7");
+    let func = limited(&rt, rt.alloc(), &domain, &steep);
+    assert!(rt; value(&func, 0) == Some(0) && value(&func, 268_435_454) == Some(0));
+    assert!(rt; value(&func, 268_435_455) == Some(7));
 }
 
 /// Whether the numbers of a peak are within their bounds.
@@ -157,87 +146,67 @@ pub(crate) fn peaked(rt: &impl Abort, alloc: Global, domain: &Domain, shape: &Pe
     peak(alloc, domain, 0, shape).expect(rt, "memory")
 }
 
-/// A peak `SUMMIT PEAKWIDTH BASEWIDTH SUMMITDELTA`, of 100,000 at most.
-const fn about(summit: i64, peakwidth: i64, basewidth: i64, summitdelta: i64) -> Peak {
+/// The peak of a row: `SUMMIT PEAKWIDTH BASEWIDTH SUMMITDELTA MAX`.
+pub(crate) fn peak_of(rt: &impl Abort, row: &str) -> Peak {
     Peak {
-        summit,
-        peakwidth,
-        basewidth,
-        summitdelta,
-        max: 100_000,
+        summit: number_at(rt, row, 0),
+        peakwidth: number_at(rt, row, 1),
+        basewidth: number_at(rt, row, 2),
+        summitdelta: number_at(rt, row, 3),
+        max: number_at(rt, row, 4),
     }
 }
 
+/// The peak of each row has the row's values at five points.
+fn are_peaks(rt: &impl Abort, alloc: Global, domain: &Domain, rows: &str) {
+    for row in rows.lines() {
+        let func = peaked(rt, alloc, domain, &peak_of(rt, row));
+        has_values(rt, &func, row, 6);
+    }
+}
+
+// Peaks on five speeds a metre a second apart, and their values there.
+const PLAIN: &str = "2000 1000 1000 40000 100000 : 0 60000 100000 60000 0
+1500 0 9000 0 100000 : 100000 100000 100000 88889 77778
+-9000 9000 0 100000 100000 : 100000 88889 77778 66667 55556";
+
+// Peaks on a circle of five courses.
+const FIVE: &str = "288000 72000 72000 40000 100000 : 60000 0 0 60000 100000
+-36000 72000 72000 40000 100000 : 100000 60000 0 0 60000";
+
 #[test]
 fn peaks(rt: HostRuntime) {
-    // Five speeds a metre a second apart, and a circle of four courses, one of five and one of two.
-    let plain = line(&rt, b"speed", 0, 4_000, 5);
-    let four = line(&rt, b"course", 0, 270_000, 4);
-    let five = line(&rt, b"course", 0, 288_000, 5);
-    let two = line(&rt, b"course", 0, 180_000, 2);
-    let table = [
-        (
-            plain,
-            about(2_000, 1_000, 1_000, 40_000),
-            [0, 60_000, 100_000, 60_000, 0],
-        ),
-        (
-            plain,
-            about(1_500, 0, 9_000, 0),
-            [100_000, 100_000, 100_000, 88_889, 77_778],
-        ),
-        (
-            plain,
-            about(-9_000, 9_000, 0, 100_000),
-            [100_000, 88_889, 77_778, 66_667, 55_556],
-        ),
-        (
-            five,
-            about(288_000, 72_000, 72_000, 40_000),
-            [60_000, 0, 0, 60_000, 100_000],
-        ),
-        (
-            five,
-            about(-36_000, 72_000, 72_000, 40_000),
-            [100_000, 60_000, 0, 0, 60_000],
-        ),
-    ];
-    for (domain, shape, values) in &table {
-        let func = peaked(&rt, rt.alloc(), domain, shape);
-        for (place, expected) in values.iter().enumerate() {
-            assert_eq!(rt; value(&func, place as u32), Some(*expected));
-        }
-    }
+    are_peaks(&rt, rt.alloc(), &line(&rt, b"speed", 0, 4_000, 5), PLAIN);
+    are_peaks(&rt, rt.alloc(), &line(&rt, b"course", 0, 288_000, 5), FIVE);
     // Half way round an even circle is of the right side; a run ends before a summit.
-    let func = peaked(&rt, rt.alloc(), &four, &about(0, 180_000, 90_000, 30_000));
-    assert_eq!(rt; func.len(), 2);
-    assert_eq!(rt; value(&func, 2), Some(70_000));
-    let func = peaked(
-        &rt,
-        rt.alloc(),
-        &two,
-        &about(180_000, 180_000, 180_000, 25_000),
-    );
-    assert_eq!(rt; func.len(), 2);
-    assert_eq!(rt; value(&func, 0), Some(75_000));
+    let four = line(&rt, b"course", 0, 270_000, 4);
+    let shape = peak_of(&rt, "0 180000 90000 30000 100000");
+    let func = peaked(&rt, rt.alloc(), &four, &shape);
+    assert!(rt; func.len() == 2 && value(&func, 2) == Some(70_000));
+    let two = line(&rt, b"course", 0, 180_000, 2);
+    let shape = peak_of(&rt, "180000 180000 180000 25000 100000");
+    let func = peaked(&rt, rt.alloc(), &two, &shape);
+    assert!(rt; func.len() == 2 && value(&func, 0) == Some(75_000));
 }
 
 /// The sum of a peak about a course and one about a speed, each of 50,000 at most.
 pub(crate) fn steered(
+    rt: &impl Abort,
     alloc: Global,
     domain: &Domain,
     course: &Peak,
     speed: &Peak,
-) -> Result<Func, Fail> {
-    if domain.axes() < 2 || !is_peak(course) || !is_peak(speed) {
-        return Err("two axes and two peaks".into());
-    }
-    if course.max < 0 || course.max > 50_000 || speed.max < 0 || speed.max > 50_000 {
-        return Err("room for the sum".into());
-    }
-    let f = peak(alloc, domain, 0, course)?;
-    let g = peak(alloc, domain, 1, speed)?;
-    Ok(couple(alloc, &f, &g).map_err(|_| "a sum")?)
+) -> Func {
+    assert!(rt; domain.axes() >= 2);
+    assert!(rt; is_peak(course));
+    assert!(rt; is_peak(speed));
+    assert!(rt; course.max >= 0);
+    assert!(rt; course.max <= 50_000);
+    assert!(rt; speed.max >= 0);
+    assert!(rt; speed.max <= 50_000);
+    let f = peak(alloc, domain, 0, course).expect(rt, "memory");
+    let g = peak(alloc, domain, 1, speed).expect(rt, "memory");
+    couple(alloc, &f, &g).expect(rt, "a sum")
 }
 
 /// Four courses round a circle, and as many speeds.
@@ -248,30 +217,15 @@ pub(crate) fn plane(rt: &impl Abort) -> Domain {
 }
 
 #[test]
-fn sums(rt: HostRuntime) -> Result<(), Fail> {
-    let domain = plane(&rt);
-    let course = Peak {
-        summit: 270_000,
-        peakwidth: 90_000,
-        basewidth: 90_000,
-        summitdelta: 10_000,
-        max: 50_000,
-    };
-    let speed = Peak {
-        summit: 1_000,
-        peakwidth: 1_000,
-        basewidth: 1_000,
-        summitdelta: 20_000,
-        max: 50_000,
-    };
-    let func = steered(rt.alloc(), &domain, &course, &speed)?;
-    let courses = [40_000, 0, 40_000, 50_000];
-    let speeds = [30_000, 50_000, 30_000, 0];
-    for (place, course) in courses.iter().enumerate() {
-        for (step, speed) in speeds.iter().enumerate() {
-            let index = place as u32 * 4 + step as u32;
-            assert_eq!(rt; value(&func, index), Some(course + speed));
-        }
+fn sums(rt: HostRuntime) {
+    let course = peak_of(&rt, "270000 90000 90000 10000 50000");
+    let speed = peak_of(&rt, "1000 1000 1000 20000 50000");
+    let func = steered(&rt, rt.alloc(), &plane(&rt), &course, &speed);
+    let courses = "40000 0 40000 50000";
+    let speeds = "30000 50000 30000 0";
+    for index in 0..16u32 {
+        let one = number_at(&rt, courses, index as usize / 4);
+        let other = number_at(&rt, speeds, index as usize % 4);
+        assert!(rt; value(&func, index) == Some(one.saturating_add(other)));
     }
-    Ok(())
 }

@@ -46,17 +46,14 @@ fn one_word(rt: HostRuntime) {
     let problem = rising(&rt, rt.alloc());
     let (best, mut one) = Best::make(rt.alloc(), &problem).expect(&rt, "memory");
     let mut two = best.split(&mut one);
-    assert_eq!(rt; best.known(&mut two), 0);
+    assert!(rt; best.known(&mut two) == 0);
     let low = point_with_sum(&problem, 3).expect(&rt, "a point");
     let high = point_with_sum(&problem, 5).expect(&rt, "a point");
-    assert_eq!(rt; high.sum, 1_200);
-    assert_eq!(rt;
-        best.offer(&mut one, &problem, &high.point, high.sum),
-        1_200
-    );
+    assert!(rt; high.sum == 1_200);
+    assert!(rt; best.offer(&mut one, &problem, &high.point, high.sum) == 1_200);
     // The other scout learns of it by the word alone, and a lesser sum changes nothing.
-    assert_eq!(rt; best.known(&mut two), 1_200);
-    assert_eq!(rt; best.offer(&mut two, &problem, &low.point, low.sum), 1_200);
+    assert!(rt; best.known(&mut two) == 1_200);
+    assert!(rt; best.offer(&mut two, &problem, &low.point, low.sum) == 1_200);
     best.join(&mut one, two);
-    assert_eq!(rt; best.known(&mut one), 1_200);
+    assert!(rt; best.known(&mut one) == 1_200);
 }

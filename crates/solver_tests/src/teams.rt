@@ -77,8 +77,8 @@ fn workers_beside(rt: HostRuntime) {
         late: AtomicBool::new(false),
     };
     let solved = solve(&rt, rt.alloc(), &problem, 3, &gate).expect(&rt, "memory");
-    assert_eq!(rt; solved.key, key_of(9, 5));
-    assert_eq!(rt; gate.here.load(Ordering::SeqCst), 3);
+    assert!(rt; solved.key == key_of(9, 5));
+    assert!(rt; gate.here.load(Ordering::SeqCst) == 3);
     assert!(rt; !gate.late.load(Ordering::SeqCst));
 }
 
@@ -129,7 +129,7 @@ fn work_of_two<R: Threads + Wait + Sync + Abort>(
     key: Key,
 ) -> Works {
     let solved = solve(rt, alloc, problem, 2, gate).expect(rt, "memory");
-    assert_eq!(rt; solved.key, key);
+    assert!(rt; solved.key == key);
     assert!(rt; !gate.wrong.load(Ordering::SeqCst));
     assert!(rt; !gate.late.load(Ordering::SeqCst));
     solved.work
@@ -143,7 +143,7 @@ fn told_before_the_call(rt: HostRuntime) {
     let problem = forked(&rt, rt.alloc());
     let done = work_of_two(&rt, rt.alloc(), &problem, &gate_until(3), key_of(9, 6));
     let expected = [Work { closed: 2 }, Work { closed: 3 }];
-    assert_eq!(rt; done.all(), expected.as_slice());
+    assert!(rt; done.all() == expected.as_slice());
 }
 
 /// Four of the root's eight children are dealt to worker 1, so the fifth node that it closes is stolen. Each call closes one
@@ -158,12 +158,12 @@ fn workers_steal(rt: HostRuntime) {
         gate.calls[1].load(Ordering::SeqCst),
     ];
     assert!(rt; calls[1] > 4);
-    assert_eq!(rt; calls[0].wrapping_add(calls[1]), 9);
+    assert!(rt; calls[0].wrapping_add(calls[1]) == 9);
     let mut works = Works::new(rt.alloc());
     for closed in calls {
         works.push(Work { closed }).expect(&rt, "room for two");
     }
-    assert_eq!(rt; done.all(), works.all());
+    assert!(rt; done.all() == works.all());
     assert!(rt; works.len() == 2);
-    assert_eq!(rt; works.get(1).closed, calls[1]);
+    assert!(rt; works.get(1).closed == calls[1]);
 }

@@ -5,55 +5,12 @@ use crate::made::{axis, domain_of, key_at, levels, listed, problem, term, two};
 use ivp_domain::BoxN;
 use ivp_func::Piece;
 use ivp_pool::solve;
-use ivp_problem::{Key, Problem, index_of_key, sum_of};
+use ivp_problem::{Key, Problem, index_of_key, key_of};
 use moos_io::NoGate;
 use std::alloc::Global;
 use std::process::Abort;
 use std::sync::Wait;
 use std::thread::Threads;
-
-/// So many workers find the point at these places, with this sum.
-fn is_found<R: Threads + Wait + Sync + Abort>(
-    rt: &R,
-    alloc: Global,
-    problem: &Problem,
-    workers: u32,
-    at: [u32; 4],
-    sum: u64,
-)
-    requires { (1 ≤ workers) × (workers ≤ 16) }
-{
-    let solved = solve(rt, alloc, problem, workers, &NoGate).expect(rt, "memory");
-    assert_eq!(rt; solved.point.at, at);
-    assert_eq!(rt; sum_of(solved.key), sum);
-    assert_eq!(rt; solved.work.len(), workers as usize);
-}
-
-fn all_find<R: Threads + Wait + Sync + Abort>(
-    rt: &R,
-    alloc: Global,
-    problem: &Problem,
-    at: [u32; 4],
-    sum: u64,
-) {
-    is_found(rt, alloc, problem, 1, at, sum);
-    is_found(rt, alloc, problem, 2, at, sum);
-    is_found(rt, alloc, problem, 16, at, sum);
-}
-
-#[test]
-fn worked_problems(rt: HostRuntime) {
-    let alloc = rt.alloc();
-    all_find(&rt, alloc, &levels(&rt, alloc, 1, 100, 7), [0; 4], 700);
-    all_find(&rt, alloc, &two(&rt, alloc), [0, 1, 0, 0], 75);
-    all_find(
-        &rt,
-        alloc,
-        &levels(&rt, alloc, 64, 10_000_000, 100_000),
-        [0; 4],
-        64_000_000_000_000,
-    );
-}
 
 /// Numbers that look random: the high half of x, which becomes x * 6364136223846793005 + 1442695040888963407 modulo 2^64.
 #[derive(Drop)]
@@ -135,25 +92,37 @@ fn is_best<R: Threads + Wait + Sync + Abort>(
     requires { (1 ≤ workers) × (workers ≤ 16) }
 {
     let solved = solve(rt, alloc, problem, workers, &NoGate).expect(rt, "memory");
-    assert_eq!(rt; solved.key, key);
-    assert_eq!(rt; key_at(problem, index_of_key(key)), Some(key));
-    assert_eq!(rt; solved.work.len(), workers as usize);
     let domain = problem.domain();
     let index = index_of_key(key);
+    assert!(rt; solved.key == key && key_at(problem, index) == Some(key));
+    assert!(rt; solved.work.len() == workers as usize);
     assert!(rt; index < domain.points() && index < 268_435_456);
-    assert_eq!(rt; solved.point, domain.point_at(index));
+    assert!(rt; solved.point == domain.point_at(index));
+}
+
+/// One worker finds the point of this key, and so do several.
+fn all_find<R: Threads + Wait + Sync + Abort>(rt: &R, alloc: Global, problem: &Problem, key: Key) {
+    is_best(rt, alloc, problem, 1, key);
+    is_best(rt, alloc, problem, 2, key);
+    is_best(rt, alloc, problem, 3, key);
+    is_best(rt, alloc, problem, 16, key);
+}
+
+#[test]
+fn worked_problems(rt: HostRuntime) {
+    let alloc = rt.alloc();
+    all_find(&rt, alloc, &levels(&rt, alloc, 1, 100, 7), key_of(700, 0));
+    all_find(&rt, alloc, &two(&rt, alloc), key_of(75, 2));
+    let greatest = levels(&rt, alloc, 64, 10_000_000, 100_000);
+    all_find(&rt, alloc, &greatest, key_of(64_000_000_000_000, 0));
 }
 
 #[test]
 fn a_hundred_small_problems(rt: HostRuntime) {
-    let alloc = rt.alloc();
     let mut random = Random { state: 2_026 };
     for _ in 0..100 {
-        let problem = random.problem(&rt, alloc);
+        let problem = random.problem(&rt, rt.alloc());
         let key = listed(&problem).expect(&rt, "a point");
-        is_best(&rt, alloc, &problem, 1, key);
-        is_best(&rt, alloc, &problem, 2, key);
-        is_best(&rt, alloc, &problem, 3, key);
-        is_best(&rt, alloc, &problem, 16, key);
+        all_find(&rt, rt.alloc(), &problem, key);
     }
 }
