@@ -2,9 +2,8 @@
 //! what was worked by hand; and that the clients of a run act beside each other.
 //!
 //! The tests of these crates are here, since a crate with tests of its own is proved once more with them. One module for each
-//! subject: `kinds` of behaviours and their `travels`, the `helm`, `plays` and `reports`, and a simulated
-//! vehicle, `vehicles`. What they make of words and files is
-//! `made` in one place.
+//! subject: `kinds` of behaviours and their `travels`, whose `steps` are told by rows, the `helm` and what is `shown` of it, `plays` and
+//! `reports`, and a simulated vehicle, `vehicles`. What they make of words and files is `made` in one place.
 #![tactic(auto)]
 
 #[cfg(test)]
@@ -17,6 +16,10 @@ mod made;
 mod plays;
 #[cfg(test)]
 mod reports;
+#[cfg(test)]
+mod shown;
+#[cfg(test)]
+mod steps;
 #[cfg(test)]
 mod travels;
 #[cfg(test)]

@@ -1,22 +1,15 @@
 // Reports of a small community, byte for byte.
 ghost use Rattle.std.specs.Prelude.{◌<◌, length};
 
-use crate::made::{batch, names, number, regs, text};
-use bhv_file::UnusedList;
+use crate::made::{batch, count_at, holds, names, number, regs, text};
 use helm_core::{Faults, Iteration, States, Updates};
 use moos_db::Db;
 use moos_io::MemSink;
 use moos_post::Batch;
-use moos_report::{Setup, parts_law, report, report_law, report_part, reports_law};
+use moos_report::{parts_law, report, report_law, report_part, reports_law, setup_without_helm};
 use std::alloc::Global;
 use std::process::Abort;
-
-fn setup(alloc: Global) -> Setup {
-    Setup {
-        unused: UnusedList::new(alloc),
-        modes: false,
-    }
-}
+use std::slice;
 
 fn post(rt: &impl Abort, alloc: Global, db: &mut Db, stamp: u64)
     requires { 0 < length db.old.names }
@@ -76,29 +69,39 @@ const REPORT: &str = "%% moosdb play 1
 %% end 4 2
 ";
 
-// What the sink has of the report, if its put of this number fails, and whether the report was told whole.
-fn is_reported(
-    rt: &impl Abort,
-    alloc: Global,
-    db: &Db,
-    iterations: &[Iteration],
-    mark: u64,
-    taken: usize,
-) {
+// Puts to the sink that fail, and how many bytes it has then. The last row has none that fails.
+const PUTS: &[&str] = &["0 0", "1 38", "2 269", "3 280"];
+
+// A sink of which this put fails.
+fn sink_of(rt: &impl Abort, alloc: Global, mark: u64) -> MemSink {
     let mut sink = MemSink::make(alloc, 2000, 4096).expect(rt, "memory");
     sink.fail_at(mark).expect(rt, "memory");
-    let reported = report(&setup(alloc), db, iterations, &mut sink);
-    assert!(rt; reported.is_ok() == (mark == 3));
-    assert_eq!(rt; sink.bytes(), REPORT.as_bytes().get(..taken).unwrap_or(b""));
+    sink
 }
 
-// Head, entries and end leave in one put each, and if one of these fails those before it are out.
-#[test]
-fn parts_leave_in_one_put_each(rt: HostRuntime) {
-    let db = community(&rt, rt.alloc());
-    let iterations = [iteration(&rt, rt.alloc())];
-    for (mark, taken) in [(0, 0), (1, 38), (2, 269), (3, 280)] {
-        is_reported(&rt, rt.alloc(), &db, &iterations, mark, taken);
+// The report goes to the sink until a put fails. It is told whether that is all.
+fn reported(alloc: Global, db: &Db, iteration: &Iteration, sink: &mut MemSink) -> bool {
+    let setup = setup_without_helm(alloc);
+    report(&setup, db, slice::from_ref(iteration), sink).is_ok()
+}
+
+// What the sink has is so much of the report.
+fn has_taken(rt: &impl Abort, sink: &MemSink, row: &str) {
+    let taken = REPORT.as_bytes().get(..count_at(rt, row, 1) as usize);
+    holds(rt, row, sink.bytes() == taken.expect(rt, "so many bytes"));
+}
+
+fn is_reported(rt: &impl Abort, alloc: Global, db: &Db, iteration: &Iteration, row: &str) {
+    let mark = count_at(rt, row, 0);
+    let mut sink = sink_of(rt, alloc, mark);
+    let is_told = reported(alloc, db, iteration, &mut sink);
+    holds(rt, row, is_told == (mark == 3));
+    has_taken(rt, &sink, row);
+}
+
+fn are_reported(rt: &impl Abort, alloc: Global, db: &Db, iteration: &Iteration) {
+    for row in PUTS {
+        is_reported(rt, alloc, db, iteration, *row);
     }
 }
 
@@ -109,12 +112,23 @@ const PART: &str = "%% entry 2 0.25 pHelmIvP fetch
 0.25 X pHelmIvP 5
 ";
 
+fn put_part(rt: &impl Abort, alloc: Global, db: &Db, sink: &mut MemSink) {
+    let setup = setup_without_helm(alloc);
+    report_part(&setup, db, 2, 0, &[], sink).expect(rt, "room");
+}
+
+fn has_part(rt: &impl Abort, alloc: Global, db: &Db) {
+    let mut sink = sink_of(rt, alloc, 9);
+    put_part(rt, alloc, db, &mut sink);
+    holds(rt, PART, sink.bytes() == PART.as_bytes());
+}
+
+// Head, entries and end leave in one put each, and if one of these fails those before it are out.
 #[test]
-fn part_from_an_entry_on(rt: HostRuntime) {
+fn reports(rt: HostRuntime) {
     let db = community(&rt, rt.alloc());
-    let mut sink = MemSink::make(rt.alloc(), 2000, 4096).expect(&rt, "memory");
-    report_part(&setup(rt.alloc()), &db, 2, 0, &[], &mut sink).expect(&rt, "room");
-    assert_eq!(rt; sink.bytes(), PART.as_bytes());
+    are_reported(&rt, rt.alloc(), &db, &iteration(&rt, rt.alloc()));
+    has_part(&rt, rt.alloc(), &db);
 }
 
 // A law is an empty function: its callers get its contract as a fact.

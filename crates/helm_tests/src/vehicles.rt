@@ -1,8 +1,10 @@
 // Steps of a simulated vehicle and of its controller, worked by hand.
 ghost use Rattle.std.specs.Prelude.{IfSome};
 ghost use Rattle.moos_post.specs.Words.{IsMilli};
+ghost use Rattle.sim_vehicle.specs.Motion.{IsHull};
 
-use sim_vehicle::{Craft, Drive, Hull, Rig, advance};
+use crate::made::{holds, number_at};
+use sim_vehicle::{Craft, Hull, Rig, advance};
 use std::process::Abort;
 
 fn craft(rt: &impl Abort, text: &[u8]) -> Craft {
@@ -21,99 +23,110 @@ fn known(rt: &impl Abort, thousandths: i64) -> Option<i64>
     Some(thousandths)
 }
 
-// The wanted heading, the vehicle's, and the rudder of the first step.
-const RUDDERS: [(i64, i64, i64); 4] = [
-    (90_000, 0, 90_000),
-    (350_000, 10_000, -20_000),
-    (190_000, 10_000, 100_000),
-    (191_000, 10_000, -100_000),
+// The number at a place of a row, if it is known.
+fn told(rt: &impl Abort, row: &str, place: usize) -> Option<i64>
+    ensures { IfSome result IsMilli }
+{
+    match number_at(row, place) {
+        Some(thousandths) => known(rt, thousandths),
+        None => None,
+    }
+}
+
+// Vehicle files, and steps of their controllers: of each the wanted heading and speed and the vehicle's heading, and then the rudder
+// and the thrust.
+const STEPS: &[(&[u8], &[&str])] = &[
+    // The rudder goes the shorter way round.
+    (b"", &["90000 - 0 90000 0"]),
+    (b"", &["350000 - 10000 -20000 0"]),
+    (b"", &["190000 - 10000 100000 0"]),
+    (b"", &["191000 - 10000 -100000 0"]),
+    (b"", &["90000 2000 0 90000 100000"]),
+    // With the gains 1, 2 and 3: errors one after the other. The integral is 5, 9 and then 10, if it is held.
+    (
+        b"yaw_ki = 2\nyaw_kd = 3\nintegral_limit = 10\nspeed_factor = 20",
+        &[
+            "5000 1500 0 30000 30000",
+            "4000 1500 0 19000 30000",
+            "3000 1500 0 20000 30000",
+        ],
+    ),
 ];
 
-#[test]
-fn rudder_goes_the_shorter_way_round(rt: HostRuntime) {
-    let craft = craft(&rt, b"");
-    for (want, heading, rudder) in &RUDDERS {
-        let mut rig = Rig::make();
-        let drive = rig.control(&craft, known(&rt, *want), None, known(&rt, *heading));
-        let wanted = Drive {
-            rudder: *rudder,
-            thrust: 0,
-        };
-        assert_eq!(rt; drive, wanted, "{want} {heading}");
-    }
+// The controller's next step is as this row says.
+fn steers(rt: &impl Abort, craft: &Craft, rig: &mut Rig, row: &str) {
+    let heading = told(rt, row, 2);
+    let drive = rig.control(craft, told(rt, row, 0), told(rt, row, 1), heading);
+    holds(rt, row, Some(drive.rudder) == number_at(row, 3));
+    holds(rt, row, Some(drive.thrust) == number_at(row, 4));
 }
 
-// With the gains 1, 2 and 3: errors one after the other, and the rudder. The integral is 5, 9 and then 10, if it is held.
-const ERRORS: [(i64, i64); 3] = [(5_000, 30_000), (4_000, 19_000), (3_000, 20_000)];
-
-#[test]
-fn controller_keeps_the_integral_and_the_last_error(rt: HostRuntime) {
-    let craft = craft(
-        &rt,
-        b"yaw_ki = 2\nyaw_kd = 3\nintegral_limit = 10\nspeed_factor = 20",
-    );
+// The controller of this vehicle makes these steps.
+fn controls(rt: &impl Abort, file: &[u8], rows: &[&str]) {
+    let craft = craft(rt, file);
     let mut rig = Rig::make();
-    for (error, rudder) in &ERRORS {
-        let drive = rig.control(&craft, known(&rt, *error), known(&rt, 1_500), known(&rt, 0));
-        let wanted = Drive {
-            rudder: *rudder,
-            thrust: 30_000,
-        };
-        assert_eq!(rt; drive, wanted, "{error}");
+    for row in rows {
+        steers(rt, &craft, &mut rig, *row);
     }
 }
+
+#[test]
+fn controllers(rt: HostRuntime) {
+    for (file, rows) in STEPS {
+        controls(&rt, *file, *rows);
+    }
+}
+
+// Where a vehicle is a quarter of a second later that is to turn east and to dive, at 2 metres a second.
+fn moved(rt: &impl Abort, craft: &Craft, rig: &mut Rig, hull: &Hull) -> Hull
+    requires { IsHull craft.now hull.now }
+    ensures { IsHull craft.now result }
+{
+    let (heading, speed) = (known(rt, 90_000), known(rt, 2_000));
+    let drive = rig.control(craft, heading, speed, known(rt, hull.heading));
+    let (rudder, thrust) = (known(rt, drive.rudder), known(rt, drive.thrust));
+    advance(craft, hull, rudder, thrust, known(rt, 10_000), 250)
+}
+
+const FIRST: Hull = Hull {
+    x: 0,
+    y: 62,
+    heading: 562,
+    speed: 250,
+    depth: 125,
+};
+
+const SECOND: Hull = Hull {
+    x: 2,
+    y: 186,
+    heading: 1_679,
+    speed: 500,
+    depth: 250,
+};
 
 #[test]
 fn vehicle_turns_east_and_dives(rt: HostRuntime) {
     let craft = craft(&rt, b"");
-    let (east, fast, deep) = (known(&rt, 90_000), known(&rt, 2_000), known(&rt, 10_000));
     let mut rig = Rig::make();
-    let start = craft.start();
-    let drive = rig.control(&craft, east, fast, known(&rt, start.heading));
-    assert_eq!(rt;
-        drive,
-        Drive {
-            rudder: 90_000,
-            thrust: 100_000
-        }
-    );
-    let (rudder, thrust) = (known(&rt, drive.rudder), known(&rt, drive.thrust));
-    let first = advance(&craft, &start, rudder, thrust, deep, 250);
-    let wanted = Hull {
-        x: 0,
-        y: 62,
-        heading: 562,
-        speed: 250,
-        depth: 125,
-    };
-    assert_eq!(rt; first, wanted);
-    let drive = rig.control(&craft, east, fast, known(&rt, first.heading));
-    let (rudder, thrust) = (known(&rt, drive.rudder), known(&rt, drive.thrust));
-    let second = advance(&craft, &first, rudder, thrust, deep, 250);
-    let wanted = Hull {
-        x: 2,
-        y: 186,
-        heading: 1_679,
-        speed: 500,
-        depth: 250,
-    };
-    assert_eq!(rt; second, wanted);
+    let first = moved(&rt, &craft, &mut rig, &craft.start());
+    assert!(rt; first == FIRST);
+    let second = moved(&rt, &craft, &mut rig, &first);
+    assert!(rt; second == SECOND);
 }
+
+const STILL: Hull = Hull {
+    x: 5_000,
+    y: 0,
+    heading: 45_000,
+    speed: 0,
+    depth: 1_000,
+};
 
 #[test]
 fn vehicle_lies_still_where_nothing_is_known(rt: HostRuntime) {
     let craft = craft(&rt, b"start_x = 5\nstart_heading = 45\nstart_depth = 1");
     let start = craft.start();
-    let wanted = Hull {
-        x: 5_000,
-        y: 0,
-        heading: 45_000,
-        speed: 0,
-        depth: 1_000,
-    };
-    assert_eq!(rt; start, wanted);
-    assert_eq!(rt;
-        advance(&craft, &start, None, None, None, 1_000_000),
-        wanted
-    );
+    assert!(rt; start == STILL);
+    let later = advance(&craft, &start, None, None, None, 1_000_000);
+    assert!(rt; later == STILL);
 }

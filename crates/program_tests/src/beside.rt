@@ -1,12 +1,10 @@
 // Two clients beside each other: in whatever order their lines come, what is printed is the report of that very history.
 use crate::files::append;
-use crate::runs::{run_on, run_under};
+use crate::runs::{PLAY, RACE, has_ended, ran, run_into, sink};
 use moos_io::Gate;
-use moos_jobs::Status;
 use std::alloc::Global;
 use std::hint::spin_loop;
 use std::process::Abort;
-use std::str;
 use std::sync::Wait;
 use std::sync::atomic::{AtomicBool, Ordering};
 use std::thread::Threads;
@@ -14,12 +12,17 @@ use std::thread::Threads;
 const SCRIPT: &str =
     "0 a register X\n0.5 b register X\n1 a post X=1\n1 a fetch\n1 b post X=2\n1 b fetch\n";
 
-// How many of its three lines a client has made, and the number of the first post that may be mailed to it.
-#[derive(Clone, Copy)]
-struct Client {
-    made: usize,
-    first: usize,
-}
+// The name of each client, when it registers, and what is printed of its post.
+const A: [&str; 3] = ["a", "0", "1 X a 1\n"];
+
+const B: [&str; 3] = ["b", "0.5", "1 X b 2\n"];
+
+const HEAD: &str = "%% moosdb play 1\n%% client 0 a\n%% client 1 b\n";
+
+// The first two entries of a play in rounds: each client registers at a stamp of its own.
+const ROUNDS: &str =
+    "%% moosdb play 1\n%% client 0 a\n%% client 1 b\n%% entry 0 0 a register\n%% reg X * 0\n\
+    %% entry 1 0.5 b register\n%% reg X * 0\n";
 
 fn digit(number: usize) -> &'static str {
     match number {
@@ -33,128 +36,75 @@ fn digit(number: usize) -> &'static str {
     }
 }
 
-// What is printed of the one post of a client.
-fn said_by(name: &str) -> &'static str {
-    if name == "a" {
-        "1 X a 1\n"
-    } else {
-        "1 X b 2\n"
-    }
-}
-
-// When a client makes its next line, after `made` lines: each registers at a stamp of its own.
-fn stamp_of(name: &str, made: usize) -> &'static str {
-    match made {
-        0 if name == "a" => "0",
-        0 => "0.5",
-        _ => "1",
-    }
-}
-
-// Adds the entry with number `k`: the next line of this client, after the posts of these clients. A client gets each
-// post from its registration on, and the latest one before it.
+// Adds the entry with number `k`: the next line of a client that has made so many. It registers, then it posts, and then it fetches
+// all posts so far: if the other one has posted before it registers, that is the latest post of the variable.
 fn add_entry(
     rt: &impl Abort,
     text: &mut String,
-    posted: &mut Vec<&'static str>,
+    mails: &mut String,
     k: usize,
-    name: &'static str,
-    client: Client,
-) -> Client {
-    let Client { made, first } = client;
-    let stamp = stamp_of(name, made);
+    client: [&'static str; 3],
+    made: &mut usize,
+) {
+    let [name, stamp, said] = client;
+    let stamp = if *made == 0 { stamp } else { "1" };
     append(rt, text, &["%% entry ", digit(k), " ", stamp, " ", name]);
-    match made {
-        0 => {
-            append(rt, text, &[" register\n%% reg X * 0\n"]);
-            let first = posted.len().saturating_sub(1);
-            Client { made: 1, first }
-        }
+    match *made {
+        0 => append(rt, text, &[" register\n%% reg X * 0\n"]),
         1 => {
-            let post = [" post ", digit(posted.len()), " 1\n", said_by(name)];
-            append(rt, text, &post);
-            posted.push(name).expect(rt, "memory");
-            Client { made: 2, first }
+            let number = if mails.is_empty() { "0" } else { "1" };
+            append(rt, text, &[" post ", number, " 1\n", said]);
+            append(rt, mails, &["%% mail ", number, " ", said]);
         }
         _ => {
             append(rt, text, &[" fetch\n"]);
-            for (number, source) in posted.iter().enumerate() {
-                if number >= first {
-                    let mail = ["%% mail ", digit(number), " ", said_by(source)];
-                    append(rt, text, &mail);
-                }
-            }
-            Client { made: 3, first }
+            text.push_str(mails.as_str()).expect(rt, "memory");
         }
     }
+    *made = made.saturating_add(1);
 }
 
-// The report of the history in which the lines of these clients are in this order.
-fn report_of(rt: &impl Abort, alloc: Global, order: &[&'static str]) -> String {
-    let mut text = String::new(alloc);
-    let head = "%% moosdb play 1\n%% client 0 a\n%% client 1 b\n";
-    append(rt, &mut text, &[head]);
-    let mut posted = Vec::new(alloc);
-    let mut a = Client { made: 0, first: 0 };
-    let mut b = a;
-    for (k, &name) in order.iter().enumerate() {
-        if name == "a" {
-            a = add_entry(rt, &mut text, &mut posted, k, name, a);
-        } else {
-            b = add_entry(rt, &mut text, &mut posted, k, name, b);
-        }
-    }
-    append(rt, &mut text, &["%% end 6 2\n"]);
-    text
-}
-
-// The clients of the entries that a report lists, in order.
-fn order_in(rt: &impl Abort, alloc: Global, report: &str) -> Vec<&'static str> {
-    let mut order = Vec::new(alloc);
+// Makes `text` the report of the history in which the clients' lines are in the order that this report tells, three of each.
+fn retell(rt: &impl Abort, text: &mut String, mails: &mut String, report: &str) {
+    append(rt, text, &[HEAD]);
+    let mut a = 0usize;
+    let mut b = 0usize;
     for line in report.lines() {
-        if line.starts_with("%% entry ") {
-            let name = match line.split_whitespace().nth(4) {
-                Some("a") => "a",
-                _ => "b",
-            };
-            order.push(name).expect(rt, "memory");
+        let k = a.saturating_add(b);
+        match line.split_whitespace().nth(4) {
+            Some("a") => add_entry(rt, text, mails, k, A, &mut a),
+            Some("b") => add_entry(rt, text, mails, k, B, &mut b),
+            _ => {}
         }
     }
-    order
+    assert!(rt; a == 3 && b == 3);
+    append(rt, text, &["%% end 6 2\n"]);
 }
 
-fn made_by(name: &str, order: &[&'static str]) -> usize {
-    order.iter().filter(|&&other| other == name).count()
+// A report begins so, and is that of the order that it tells.
+fn is_retold(rt: &impl Abort, alloc: Global, report: &str, front: &str) {
+    let mut text = String::new(alloc);
+    let mut mails = String::new(alloc);
+    retell(rt, &mut text, &mut mails, report);
+    assert!(rt;
+        report.starts_with(front) && text.as_str() == report,
+        "{report}"
+    );
 }
 
-// The order that a report tells, which has each client's three lines. The whole report is the one of that order.
-fn order_of(rt: &impl Abort, alloc: Global, report: &str) -> Vec<&'static str> {
-    let order = order_in(rt, alloc, report);
-    assert!(rt; made_by("a", &order) == 3 && made_by("b", &order) == 3);
-    assert_eq!(rt; report, report_of(rt, alloc, &order).as_str());
-    order
-}
-
-// Plays the script, and gives the order that its report tells.
-fn play<R: Threads + Wait + Sync + Abort>(
-    rt: &R,
-    alloc: Global,
-    line: &[&str],
-) -> Vec<&'static str> {
-    let (status, out) = run_on(rt, alloc, line, SCRIPT);
-    assert_eq!(rt; status, Status::Done);
-    let report = str::from_utf8(out.bytes()).expect(rt, "a text");
-    order_of(rt, alloc, report)
+// So is the report of a play of the script by these words.
+fn plays<R: Threads + Wait + Sync + Abort>(rt: &R, alloc: Global, line: &[&str], front: &str) {
+    let report = ran(rt, alloc, line, &[SCRIPT], "done");
+    is_retold(rt, alloc, report.as_str(), front);
 }
 
 #[test]
 fn reports_are_of_the_history_that_came(rt: HostRuntime) {
     for _ in 0..20 {
-        let order = play(&rt, rt.alloc(), &["play", "f.txt"]);
-        assert!(rt; order.as_slice().starts_with(["a", "b"].as_slice()));
+        plays(&rt, rt.alloc(), PLAY, ROUNDS);
     }
     for _ in 0..200 {
-        play(&rt, rt.alloc(), &["play", "f.txt", "--race"]);
+        plays(&rt, rt.alloc(), RACE, HEAD);
     }
 }
 
@@ -163,15 +113,14 @@ fn reports_are_of_the_history_that_came(rt: HostRuntime) {
 #[derive(Drop)]
 struct Watch {
     workers: u32,
-    other: AtomicBool,
-    third: AtomicBool,
+    here: AtomicBool,
     missed: AtomicBool,
 }
 
 impl Watch {
-    fn wait_for(&self, flag: &AtomicBool) {
+    fn wait(&self) {
         for _ in 0..100_000_000u32 {
-            if flag.load(Ordering::SeqCst) {
+            if self.here.load(Ordering::SeqCst) {
                 return;
             }
             spin_loop();
@@ -183,50 +132,65 @@ impl Watch {
 impl Gate for Watch {
     fn at_node(&self, worker: u32, nth: u64) {
         if worker == 2 {
-            self.third.store(true, Ordering::SeqCst);
+            self.here.store(true, Ordering::SeqCst);
         } else if self.workers == 3 && (worker == 1 || nth > 0) {
-            self.wait_for(&self.third);
+            self.wait();
         }
     }
 
     fn at_call(&self, client: u32, _nth: u64) {
         if client == 1 {
-            self.other.store(true, Ordering::SeqCst);
+            self.here.store(true, Ordering::SeqCst);
         } else {
-            self.wait_for(&self.other);
+            self.wait();
         }
     }
 }
 
-fn watching(workers: u32) -> Watch {
-    Watch {
+// The watch over a run by these words on this file, which is done.
+fn watched<R: Threads + Wait + Sync + Abort>(
+    rt: &R,
+    alloc: Global,
+    line: &[&str],
+    text: &str,
+    workers: u32,
+) -> Watch {
+    let gate = Watch {
         workers,
-        other: AtomicBool::new(false),
-        third: AtomicBool::new(false),
+        here: AtomicBool::new(false),
         missed: AtomicBool::new(false),
-    }
+    };
+    let mut out = sink(rt, alloc);
+    let status = run_into(rt, alloc, line, &[text], None, &mut out, &gate);
+    assert!(rt; has_ended(rt, alloc, status, "done"));
+    gate
 }
 
 // The two lines have stamps of their own, so in rounds the second client would wait for the first.
 #[test]
 fn a_race_has_no_rounds(rt: HostRuntime) {
-    let gate = watching(1);
-    let line = ["play", "f.txt", "--race"];
-    let (status, _) = run_under(&rt, rt.alloc(), &line, "0 a fetch\n1 b fetch\n", &gate);
-    assert_eq!(rt; status, Status::Done);
-    assert!(rt; !gate.missed.load(Ordering::SeqCst));
+    let watch = watched(&rt, rt.alloc(), RACE, "0 a fetch\n1 b fetch\n", 1);
+    assert!(rt; !watch.missed.load(Ordering::SeqCst));
 }
 
 // The root has a child for each of three workers, of whom no one takes another's while he is held at his own.
+const FORKED: &str =
+    "ivp 1\ndomain a:0:2:3\nfunction 1\npiece 0 0 0 0\npiece 1 1 5 0\npiece 2 2 0 0\nend\n";
+
+// Whether a third worker is there if so many are asked for.
+fn has_third<R: Threads + Wait + Sync + Abort>(
+    rt: &R,
+    alloc: Global,
+    workers: u32,
+    asked: &str,
+) -> bool {
+    let line = ["solve", "s.txt", "--workers", asked];
+    let watch = watched(rt, alloc, &line, FORKED, workers);
+    watch.here.load(Ordering::SeqCst)
+}
+
 #[test]
 fn so_many_workers_as_are_asked_for(rt: HostRuntime) {
-    let problem =
-        "ivp 1\ndomain a:0:2:3\nfunction 1\npiece 0 0 0 0\npiece 1 1 5 0\npiece 2 2 0 0\nend\n";
-    for (workers, asked) in [(2, "2"), (3, "3")] {
-        let gate = watching(workers);
-        let line = ["solve", "f.txt", "--workers", asked];
-        let (status, _) = run_under(&rt, rt.alloc(), &line, problem, &gate);
-        assert_eq!(rt; status, Status::Done);
-        assert!(rt; gate.third.load(Ordering::SeqCst) == (workers == 3));
-    }
+    assert!(rt; !has_third(&rt, rt.alloc(), 2, "2"));
+    assert!(rt; has_third(&rt, rt.alloc(), 3, "3"));
 }

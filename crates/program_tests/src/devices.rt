@@ -1,8 +1,8 @@
 // Runs over a folder of which a load fails, and into sinks that fail or have just room.
-use crate::files::{ALPHA, FIRST_REPORT, FIRST_SCRIPT, SECOND_DECISION, SECOND_PROBLEM, decided};
-use crate::runs::{command_line, folder_beside, folder_of};
-use moos_io::{FirmSink, MemSink, NoGate, Sink};
-use moos_jobs::{Status, run};
+use crate::files::{ALPHA, FIRST_SCRIPT, SAILED, SECOND_DECIDED};
+use crate::runs::{PLAY, SOLVE, STEER, has_ended, parted, ran, run_into, sink};
+use moos_io::{FirmSink, MemSink, NoGate};
+use moos_jobs::Status;
 use std::alloc::Global;
 use std::process::Abort;
 use std::sync::Wait;
@@ -11,105 +11,111 @@ use std::thread::Threads;
 // The survey loads a script, a mission and a behaviour file.
 #[test]
 fn a_failed_load_is_told(rt: HostRuntime) {
-    let words = command_line(&rt, rt.alloc(), &["play", "s.txt", "m.moos"]);
     for nth in 0..3 {
-        let mut folder = folder_beside(&rt, rt.alloc(), ALPHA);
-        folder.fail_at(nth).expect(&rt, "memory");
-        let mut out = MemSink::make(rt.alloc(), 100, 100).expect(&rt, "memory");
-        let status = run(&rt, rt.alloc(), &words, &mut folder, &mut out, &NoGate);
-        assert_eq!(rt; status, Status::LoadFault, "{nth}");
-        assert_eq!(rt; out.bytes().len(), 0);
+        let mut out = sink(&rt, rt.alloc());
+        let mark = Some(nth);
+        let status = run_into(&rt, rt.alloc(), STEER, ALPHA, mark, &mut out, &NoGate);
+        let is_told = has_ended(&rt, rt.alloc(), status, "load fault");
+        assert!(rt; is_told && out.bytes().is_empty(), "{nth}");
     }
 }
 
-// Runs a job on this file into a sink.
-fn run_into<R: Threads + Wait + Sync + Abort, K: Sink>(
-    rt: &R,
-    alloc: Global,
-    job: &str,
-    text: &str,
-    out: &mut K,
-) -> Status {
-    let words = command_line(rt, alloc, &[job, "f.txt"]);
-    let mut folder = folder_of(rt, alloc, text);
-    run(rt, alloc, &words, &mut folder, out, &NoGate)
-}
-
-// A sink of which a put takes 7 bytes at most, and the put with this number fails.
-fn failing_sink(rt: &impl Abort, alloc: Global, nth: u64) -> MemSink {
-    let mut out = MemSink::make(alloc, 10_000, 7).expect(rt, "memory");
+// A sink of which a put takes so many bytes at most, and the put with this number fails.
+fn failing_sink(rt: &impl Abort, alloc: Global, limit: usize, nth: u64) -> MemSink {
+    assert!(rt; limit > 0);
+    let mut out = MemSink::make(alloc, 1_000_000, limit).expect(rt, "memory");
     out.fail_at(nth).expect(rt, "memory");
     out
 }
 
-// Whether the job is done into such a sink, and this was written. Else the write is told, and a front of this was written.
+// Whether a run is done. Else its write failed.
+fn is_done_or_cut(rt: &impl Abort, alloc: Global, status: Status) -> bool {
+    let is_done = has_ended(rt, alloc, status, "done");
+    assert!(rt; is_done || has_ended(rt, alloc, status, "write fault"));
+    is_done
+}
+
+// What was taken is a front of the whole, and it is all exactly if the run is done.
+fn is_front(rt: &impl Abort, taken: &[u8], whole: &[u8], is_done: bool) {
+    assert!(rt; whole.starts_with(taken));
+    assert!(rt; (taken.len() == whole.len()) == is_done);
+}
+
+// Whether a run into such a sink is done.
 fn is_done<R: Threads + Wait + Sync + Abort>(
     rt: &R,
     alloc: Global,
-    job: &str,
-    text: &str,
-    whole: &str,
+    line: &[&str],
+    files: &[&str],
+    whole: &[u8],
+    limit: usize,
     nth: u64,
 ) -> bool {
-    let mut out = failing_sink(rt, alloc, nth);
-    let status = run_into(rt, alloc, job, text, &mut out);
-    if status == Status::Done {
-        assert_eq!(rt; out.bytes(), whole.as_bytes());
-        return true;
-    }
-    assert_eq!(rt; status, Status::WriteFault, "{job}: {nth}");
-    assert!(rt; out.bytes().len() < whole.len());
-    assert!(rt; whole.as_bytes().starts_with(out.bytes()), "{job}: {nth}");
-    false
+    let mut out = failing_sink(rt, alloc, limit, nth);
+    let status = run_into(rt, alloc, line, files, None, &mut out, &NoGate);
+    let is_done = is_done_or_cut(rt, alloc, status);
+    is_front(rt, out.bytes(), whole, is_done);
+    is_done
 }
 
-// Each put of the job fails once, from the first to one behind the last.
+// Each put of the run fails once, from the first to one behind the last. There are so many at least.
 fn fails_at_each_put<R: Threads + Wait + Sync + Abort>(
     rt: &R,
     alloc: Global,
-    job: &str,
-    text: &str,
-    whole: &str,
+    line: &[&str],
+    files: &[&str],
+    whole: &[u8],
+    limit: usize,
+    least: u64,
 ) {
     for nth in 0..1000 {
-        if is_done(rt, alloc, job, text, whole, nth) {
-            // A put takes 7 bytes at most.
-            assert!(rt; nth * 7 >= whole.len() as u64, "{job}: {nth}");
+        if is_done(rt, alloc, line, files, whole, limit, nth) {
+            assert!(rt; nth >= least, "{nth}");
             return;
         }
     }
-    assert!(rt; false, "{job}: never done");
+    panic!(rt; "never done")
 }
 
-// A sink with just the room for what is written takes it all, and one with room for a byte less takes all but the last.
+// A run into a sink with this room fills it, and it is done exactly if that is all.
 fn fits<R: Threads + Wait + Sync + Abort>(
     rt: &R,
     alloc: Global,
-    job: &str,
-    text: &str,
-    whole: &str,
+    line: &[&str],
+    files: &[&str],
+    whole: &[u8],
+    room: usize,
 ) {
-    let most = whole.len();
-    for (room, status) in [
-        (most, Status::Done),
-        (most.saturating_sub(1), Status::WriteFault),
-    ] {
-        let mut out = FirmSink::make(alloc, room).expect(rt, "memory");
-        let ended = run_into(rt, alloc, job, text, &mut out);
-        assert_eq!(rt; ended, status, "{job}: {room}");
-        assert_eq!(rt; out.bytes().len(), room);
-        assert!(rt; whole.as_bytes().starts_with(out.bytes()), "{job}: {room}");
-    }
+    let mut out = FirmSink::make(alloc, room).expect(rt, "memory");
+    let status = run_into(rt, alloc, line, files, None, &mut out, &NoGate);
+    let is_done = is_done_or_cut(rt, alloc, status);
+    is_front(rt, out.bytes(), whole, is_done);
+    assert!(rt; out.bytes().len() == room);
 }
 
+// Each sink that fails is left with a front of what the run writes, and one with just room takes it all.
+fn leaves_a_front<R: Threads + Wait + Sync + Abort>(
+    rt: &R,
+    alloc: Global,
+    line: &[&str],
+    files: &[&str],
+    limit: usize,
+    least: u64,
+) {
+    let whole = ran(rt, alloc, line, files, "done");
+    let whole = whole.as_bytes();
+    fails_at_each_put(rt, alloc, line, files, whole, limit, least);
+    fits(rt, alloc, line, files, whole, whole.len());
+    fits(rt, alloc, line, files, whole, whole.len().saturating_sub(1));
+}
+
+// A put takes 7 bytes of 178 and of 211. Beside a vehicle there are seven puts at least: that of the opening, those of five rounds,
+// and the last one.
 #[test]
 fn sinks_that_fail_are_left_with_a_front(rt: HostRuntime) {
-    let decided = decided(&rt, rt.alloc(), SECOND_PROBLEM, SECOND_DECISION);
-    for (job, text, whole) in [
-        ("play", FIRST_SCRIPT, FIRST_REPORT),
-        ("solve", SECOND_PROBLEM, decided.as_str()),
-    ] {
-        fails_at_each_put(&rt, rt.alloc(), job, text, whole);
-        fits(&rt, rt.alloc(), job, text, whole);
-    }
+    leaves_a_front(&rt, rt.alloc(), PLAY, &[FIRST_SCRIPT], 7, 26);
+    let (problem, _) = parted(SECOND_DECIDED, "decision");
+    leaves_a_front(&rt, rt.alloc(), SOLVE, &[problem], 7, 31);
+    let line = ["simulate", "s.txt", "m.moos", "v.txt"];
+    leaves_a_front(&rt, rt.alloc(), &line, SAILED, 10_000, 7);
 }

@@ -9,17 +9,14 @@ pub(crate) const FIRST_REPORT: &str =
     "%% moosdb play 1\n%% client 0 pA\n%% entry 0 0 pA register\n%% reg X * 0\n\
     %% entry 1 1 pA post 0 1\n1 X pA 5\n%% entry 2 2 pA fetch\n%% mail 0 1 X pA 5\n%% entry 3 3 pA fetch\n%% end 4 1\n";
 
-pub(crate) const FIRST_PROBLEM: &str =
-    "ivp 1\ndomain course:0:359:360\nfunction 100\npiece 0 359 7 0\nend\n";
+// A decided problem is the problem's own lines and, from the first `decision` on, its decision's.
+pub(crate) const FIRST_DECIDED: &str =
+    "ivp 1\ndomain course:0:359:360\nfunction 100\npiece 0 359 7 0\nend\ndecision 0 700\ncut : 700 0\ndone\n";
 
-pub(crate) const FIRST_DECISION: &str = "decision 0 700\ncut : 700 0\ndone\n";
-
-pub(crate) const SECOND_PROBLEM: &str = "ivp 1\ndomain a:0:2:3\ndomain b:0:1:2\ndomain d:0:1:2\n\
+pub(crate) const SECOND_DECIDED: &str = "ivp 1\ndomain a:0:2:3\ndomain b:0:1:2\ndomain d:0:1:2\n\
     function 2\npiece 0 2 0 1 0 1 0 10 0 0\n\
-    function 3\npiece 0 0 0 1 0 1 20 0 5 0\npiece 1 2 0 1 0 1 0 0 5 0\nend\n";
-
-pub(crate) const SECOND_DECISION: &str =
-    "decision 0 1 0 75\ncut 0 0 : 75 2\ncut 0 1 : 55 10\ndone\n";
+    function 3\npiece 0 0 0 1 0 1 20 0 5 0\npiece 1 2 0 1 0 1 0 0 5 0\nend\n\
+    decision 0 1 0 75\ncut 0 0 : 75 2\ncut 0 1 : 55 10\ndone\n";
 
 // A vehicle is deployed and given to the helm.
 pub(crate) const DEPLOYING_SCRIPT: &str =
@@ -30,46 +27,52 @@ pub(crate) const COURSE_MISSION: &str =
 
 pub(crate) const MODES: &str = "set MODE = ACTIVE {\nDEPLOY = true\n} INACTIVE\n";
 
-// A survey of five points, and the way back: its script, its mission, and its behaviour file.
-pub(crate) const ALPHA: [&str; 3] = [
+pub(crate) const ALPHA_SCRIPT: &str =
     "0 uNav post NAV_X=0 # NAV_Y=0\n0.1 uTimer post DEPLOY=true # MOOS_MANUAL_OVERRIDE=false\n\
-    10 uNav post NAV_X=60 # NAV_Y=-40\n60 until\n",
-    SURVEY_MISSION,
-    SURVEY_BEHAVIORS,
-];
+    10 uNav post NAV_X=60 # NAV_Y=-40\n60 until\n";
 
-// Weights of half a one and of a thousandth.
-pub(crate) const HALF_PROBLEM: &str = "ivp 1\ndomain a:0:2:3\nfunction 0.5\npiece 0 2 0 10\nend\n";
+// A survey of five points, and the way back: its script, its mission, and its behaviour file.
+pub(crate) const ALPHA: &[&str] = &[ALPHA_SCRIPT, SURVEY_MISSION, SURVEY_BEHAVIORS];
 
-pub(crate) const HALF_DECISION: &str = "decision 2 10\ncut 0 : 10 2\ndone\n";
+// The helm has the vehicle for a second, in which it ticks five times.
+pub(crate) const FIVE_TICKS: &str = "0 t post DEPLOY=true # MOOS_MANUAL_OVERRIDE=false\n1 until\n";
 
-pub(crate) const LEAST_PROBLEM: &str =
-    "ivp 1\ndomain a:0:2:3\nfunction 0.001\npiece 0 2 7 0\nend\n";
-
-pub(crate) const LEAST_DECISION: &str = "decision 0 0.007\ncut : 0.007 0\ndone\n";
-
-// The lines of a problem and those of its decision.
-pub(crate) fn decided(rt: &impl Abort, alloc: Global, problem: &str, decision: &str) -> String {
-    let mut text = problem.to_string(alloc).expect(rt, "memory");
-    append(rt, &mut text, &[decision]);
-    text
-}
+// That with the survey's mission, beside a vehicle as it is without settings.
+pub(crate) const SAILED: &[&str] = &[FIVE_TICKS, SURVEY_MISSION, SURVEY_BEHAVIORS, ""];
 
 pub(crate) fn append(rt: &impl Abort, text: &mut String, pieces: &[&str]) {
     for piece in pieces {
-        text.push_str(piece).expect(rt, "memory");
+        text.push_str(*piece).expect(rt, "memory");
     }
 }
 
-// 64 functions over the course, each of value 100,000 everywhere: this weight, and then 10,000.
-pub(crate) fn levels(rt: &impl Abort, alloc: Global, first: &str) -> String {
+// Appends each number below `many`, with what is before it and behind it.
+pub(crate) fn append_each(
+    rt: &impl Abort,
+    alloc: Global,
+    text: &mut String,
+    before: &str,
+    many: u32,
+    behind: &str,
+) {
+    for number in 0..many {
+        let piece = format!(in alloc; "{before}{number}{behind}").expect(rt, "memory");
+        text.push_str(piece.as_str()).expect(rt, "memory");
+    }
+}
+
+// 64 functions over the course, each of value 100,000 everywhere: this weight, and then 10,000. Behind them is a decision, if any.
+pub(crate) fn levels(rt: &impl Abort, alloc: Global, first: &str, decision: &str) -> String {
     let mut text = String::new(alloc);
     append(rt, &mut text, &["ivp 1\ndomain course:0:359:360\n"]);
-    for number in 0..64 {
-        let weight = if number == 0 { first } else { "10000" };
-        let function = ["function ", weight, "\npiece 0 359 100000 0\n"];
-        append(rt, &mut text, &function);
+    append(
+        rt,
+        &mut text,
+        &["function ", first, "\npiece 0 359 100000 0\n"],
+    );
+    for _ in 0..63 {
+        append(rt, &mut text, &["function 10000\npiece 0 359 100000 0\n"]);
     }
-    append(rt, &mut text, &["end\n"]);
+    append(rt, &mut text, &["end\n", decision]);
     text
 }

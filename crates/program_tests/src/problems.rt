@@ -1,87 +1,78 @@
 // Problems that are solved, and decisions that are checked.
-use crate::files::{
-    FIRST_DECISION, FIRST_PROBLEM, HALF_DECISION, HALF_PROBLEM, LEAST_DECISION, LEAST_PROBLEM,
-    SECOND_DECISION, SECOND_PROBLEM, decided, levels,
-};
-use crate::runs::ends_so;
-use moos_jobs::{FileKind, Refusal, Status};
-use moos_text::Cause;
+use crate::files::{FIRST_DECIDED, SECOND_DECIDED, levels};
+use crate::runs::{CHECK, parted, writes};
 use std::alloc::Global;
 use std::process::Abort;
 use std::sync::Wait;
 use std::thread::Threads;
 
-const LEVELS_DECISION: &str = "decision 0 64000000000\ncut : 64000000000 0\ndone\n";
+const WORKERS: &[&str] = &["1", "2", "16"];
 
-// The problem's decision is this, by any number of workers.
-fn is_solved<R: Threads + Wait + Sync + Abort>(rt: &R, alloc: Global, text: &str, decision: &str) {
-    let wanted = decided(rt, alloc, text, decision);
-    for workers in ["1", "2", "16"] {
-        let line = ["solve", "f.txt", "--workers", workers];
-        ends_so(rt, alloc, &line, text, Status::Done, wanted.as_str());
+// Decided so is the problem by any number of workers.
+fn is_solved<R: Threads + Wait + Sync + Abort>(rt: &R, alloc: Global, decided: &str) {
+    let (problem, _) = parted(decided, "decision");
+    for workers in WORKERS {
+        let line = ["solve", "s.txt", "--workers", *workers];
+        writes(rt, alloc, &line, &[problem], "done", decided);
     }
 }
 
+// Decided problems. The last two have weights of a half and of a thousandth.
+const DECIDED: &[&str] = &[
+    FIRST_DECIDED,
+    SECOND_DECIDED,
+    "ivp 1\ndomain a:0:2:3\nfunction 0.5\npiece 0 2 0 10\nend\ndecision 2 10\ncut 0 : 10 2\ndone\n",
+    "ivp 1\ndomain a:0:2:3\nfunction 0.001\npiece 0 2 7 0\nend\ndecision 0 0.007\ncut : 0.007 0\ndone\n",
+];
+
+const LEVELS_DECISION: &str = "decision 0 64000000000\ncut : 64000000000 0\ndone\n";
+
 #[test]
 fn good_problems_are_solved_by_any_number_of_workers(rt: HostRuntime) {
-    is_solved(&rt, rt.alloc(), FIRST_PROBLEM, FIRST_DECISION);
-    is_solved(&rt, rt.alloc(), SECOND_PROBLEM, SECOND_DECISION);
-    is_solved(&rt, rt.alloc(), HALF_PROBLEM, HALF_DECISION);
-    is_solved(&rt, rt.alloc(), LEAST_PROBLEM, LEAST_DECISION);
-    let levels = levels(&rt, rt.alloc(), "10000");
-    is_solved(&rt, rt.alloc(), levels.as_str(), LEVELS_DECISION);
+    for decided in DECIDED {
+        is_solved(&rt, rt.alloc(), *decided);
+    }
+    let levels = levels(&rt, rt.alloc(), "10000", LEVELS_DECISION);
+    is_solved(&rt, rt.alloc(), levels.as_str());
 }
 
-// A check of the second problem with this decision ends so, and writes this.
+// What is changed in the second decided problem, how a check of it ends then, and what it writes.
+const CHANGES: &[(&str, &str, &str, &str)] = &[
+    ("done\n", "done\n", "done", "accepted\n"),
+    (": 75 2\n", ": 74 2\n", "not accepted", "not accepted\n"),
+    ("cut 0 1 : 55 10\n", "", "not accepted", "not accepted\n"),
+    (
+        "cut 0 0 : 75 2\n",
+        "cut 0 0 : 75 2\ncut 0 0 : 75 2\n",
+        "not accepted",
+        "not accepted\n",
+    ),
+    (
+        "decision 0 1 0 75\n",
+        "decision 2 1 0 55\n",
+        "not accepted",
+        "not accepted\n",
+    ),
+    ("done\n", "", "decision line 13: P9 NoEnd", ""),
+];
+
+// A check of the second problem's decision, changed so, ends so and writes this.
 fn is_checked<R: Threads + Wait + Sync + Abort>(
     rt: &R,
     alloc: Global,
-    decision: &str,
-    status: Status,
-    written: &str,
+    old: &str,
+    new: &str,
+    ended: &str,
+    told: &str,
 ) {
-    let text = decided(rt, alloc, SECOND_PROBLEM, decision);
-    let line = ["check", "f.txt"];
-    ends_so(rt, alloc, &line, text.as_str(), status, written);
+    let text = SECOND_DECIDED.replacen(alloc, old, new, 1);
+    let text = text.expect(rt, "memory");
+    writes(rt, alloc, CHECK, &[text.as_str()], ended, told);
 }
-
-// Decisions of the second problem, how a check of each ends, and what it writes.
-const CHECKED: &[(&str, Status, &str)] = &[
-    (SECOND_DECISION, Status::Done, "accepted\n"),
-    (
-        "decision 0 1 0 75\ncut 0 0 : 74 2\ncut 0 1 : 55 10\ndone\n",
-        Status::CheckNo,
-        "not accepted\n",
-    ),
-    (
-        "decision 0 1 0 75\ncut 0 0 : 75 2\ndone\n",
-        Status::CheckNo,
-        "not accepted\n",
-    ),
-    (
-        "decision 0 1 0 75\ncut 0 0 : 75 2\ncut 0 0 : 75 2\ncut 0 1 : 55 10\ndone\n",
-        Status::CheckNo,
-        "not accepted\n",
-    ),
-    (
-        "decision 2 1 0 55\ncut 0 0 : 75 2\ncut 0 1 : 55 10\ndone\n",
-        Status::CheckNo,
-        "not accepted\n",
-    ),
-    (
-        "decision 0 1 0 75\ncut 0 0 : 75 2\ncut 0 1 : 55 10\n",
-        Status::Refused(Refusal {
-            file: FileKind::Decision,
-            line: 13,
-            cause: Cause::P9,
-        }),
-        "",
-    ),
-];
 
 #[test]
 fn decisions_are_checked(rt: HostRuntime) {
-    for (decision, status, written) in CHECKED {
-        is_checked(&rt, rt.alloc(), *decision, *status, *written);
+    for (old, new, ended, told) in CHANGES {
+        is_checked(&rt, rt.alloc(), *old, *new, *ended, *told);
     }
 }

@@ -1,45 +1,43 @@
 // Which words name a job, and which don't.
-use crate::files::{FIRST_DECISION, FIRST_PROBLEM, FIRST_REPORT, FIRST_SCRIPT, decided};
-use crate::runs::{command_line, ends, ends_so};
-use moos_jobs::{Status, Word};
+use crate::files::{FIRST_DECIDED, FIRST_REPORT, FIRST_SCRIPT};
+use crate::runs::{Row, parted, rows_hold, words_of, writes};
 
 // Words that have the first script played.
-const PLAYING: &[&[&str]] = &[
-    &["play", "f.txt", "--race"],
-    &["play", "--race", "f.txt"],
-    &["play", "--", "f.txt"],
+const PLAYING: &[Row] = &[
+    (
+        &["play", "s.txt", "--race"],
+        &[FIRST_SCRIPT],
+        "done",
+        FIRST_REPORT,
+    ),
+    (
+        &["play", "--race", "s.txt"],
+        &[FIRST_SCRIPT],
+        "done",
+        FIRST_REPORT,
+    ),
+    (
+        &["play", "--", "s.txt"],
+        &[FIRST_SCRIPT],
+        "done",
+        FIRST_REPORT,
+    ),
 ];
 
 // Words that have the first problem solved.
 const SOLVING: &[&[&str]] = &[
-    &["solve", "f.txt"],
-    &["solve", "--workers=2", "f.txt"],
-    &["solve", "f.txt", "--workers", "+2"],
-    &["solve", "f.txt", "--workers", "002"],
+    &["solve", "s.txt"],
+    &["solve", "--workers=2", "s.txt"],
+    &["solve", "s.txt", "--workers", "+2"],
+    &["solve", "s.txt", "--workers", "002"],
 ];
 
 #[test]
 fn words_that_are_taken(rt: HostRuntime) {
-    for line in PLAYING {
-        ends_so(
-            &rt,
-            rt.alloc(),
-            *line,
-            FIRST_SCRIPT,
-            Status::Done,
-            FIRST_REPORT,
-        );
-    }
-    let decided = decided(&rt, rt.alloc(), FIRST_PROBLEM, FIRST_DECISION);
+    rows_hold(&rt, rt.alloc(), PLAYING);
+    let (problem, _) = parted(FIRST_DECIDED, "decision");
     for line in SOLVING {
-        ends_so(
-            &rt,
-            rt.alloc(),
-            *line,
-            FIRST_PROBLEM,
-            Status::Done,
-            decided.as_str(),
-        );
+        writes(&rt, rt.alloc(), *line, &[problem], "done", FIRST_DECIDED);
     }
 }
 
@@ -75,17 +73,15 @@ const OTHER_WORDS: &[&[&str]] = &[
 #[test]
 fn other_words_are_usage(rt: HostRuntime) {
     for line in OTHER_WORDS {
-        let words = command_line(&rt, rt.alloc(), *line);
-        assert_eq!(rt; ends(&rt, rt.alloc(), &words), Status::Usage, "{line:?}");
+        writes(&rt, rt.alloc(), *line, &[""], "usage", "");
     }
 }
 
 #[test]
 fn a_name_that_is_no_text_is_usage(rt: HostRuntime) {
-    let mut words = command_line(&rt, rt.alloc(), &["play"]);
     let long = "x".repeat(rt.alloc(), 4097).expect(&rt, "memory");
-    words.push(Word::new(long)).expect(&rt, "memory");
-    assert!(rt; words.len() == 2);
-    assert_eq!(rt; words.get(1).bytes().len(), 4097);
-    assert_eq!(rt; ends(&rt, rt.alloc(), &words), Status::Usage);
+    let line = ["play", long.as_str()];
+    let words = words_of(&rt, rt.alloc(), &line);
+    assert!(rt; words.len() == 2 && words.get(1).bytes().len() == 4097);
+    writes(&rt, rt.alloc(), &line, &[""], "usage", "");
 }

@@ -1,121 +1,98 @@
 // Contacts files, their refusals, and node reports worked by hand.
-use crate::files::{Kind, append, are_refused, is_shown, joined, refused};
+use crate::files::{Kind, append_milli, are_judged, bytes_of, check, is_shown, joined};
 use contact_avoid::{Ranges, Report, read_report};
-use moos_post::Milli;
-use moos_text::{Cause, print_milli, print_unsigned};
 use std::alloc::Global;
 use std::process::Abort;
 
-// Contacts files, with the alert range and the clear range, in metres.
-const GOOD: &[(&[u8], &[u8])] = &[
-    (b"", b"50 60"),
-    (b"// none\n\n", b"50 60"),
-    (b"alert_range = 60", b"60 60"),
-    (b"ALERT_range=0\nclear_Range = 0.0009 // none\r\n", b"0 0"),
-    (b"clear_range = 10\nclear_range = 70\n", b"50 70"),
+// Contacts files, with the alert range and the clear range, in thousandths of a metre.
+const GOOD: &[(&str, u32, u32)] = &[
+    ("", 50_000, 60_000),
+    ("// none\n\n", 50_000, 60_000),
+    ("alert_range = 60", 60_000, 60_000),
+    ("ALERT_range=0\nclear_Range = 0.0009 // none\r\n", 0, 0),
+    ("clear_range = 10\nclear_range = 70\n", 50_000, 70_000),
     (
-        b"alert_range = 10000\nclear_range = +10000.0009",
-        b"10000 10000",
+        "alert_range = 10000\nclear_range = +10000.0009",
+        10_000_000,
+        10_000_000,
     ),
-    (b"\talert_range\t=\t.0125\n", b"0.012 60"),
+    ("\talert_range\t=\t.0125\n", 12, 60_000),
 ];
 
-// The line and the cause of those that aren't good.
-const BAD: &[(&[u8], u32, Cause)] = &[
-    (b"alert_range", 1, Cause::C1),
-    (b"\nrange = 5", 2, Cause::C1),
-    (b"= 5", 1, Cause::C1),
-    (b"alert_range = 5 \"", 1, Cause::C1),
-    (b"range = x", 1, Cause::C1),
-    (b"alert_range =", 1, Cause::C2),
-    (b"alert_range = 5 m", 1, Cause::C2),
-    (b"alert_range = \"5\"", 1, Cause::C2),
-    (b"alert_range = -0.001", 1, Cause::C2),
-    (b"clear_range = 10000.001\nx", 1, Cause::C2),
-    (b"alert_range = 61", 1, Cause::C3),
-    (b"clear_range = 49.999\n// the end\n", 2, Cause::C3),
-    (b"clear_range = 10\nx", 2, Cause::C1),
-];
-
-fn reads_as(rt: &impl Abort, alloc: Global, text: &[u8], wanted: &[u8]) {
-    assert!(rt; text.len() < 1000);
-    match Ranges::read(text) {
-        Ok(ranges) => {
-            let alert = print_unsigned(ranges.alert as u64);
-            let clear = print_unsigned(ranges.clear as u64);
-            let shown = joined(rt, alloc, &[alert.bytes(), b" ", clear.bytes()]);
-            is_shown(rt, &shown, wanted, text);
-        }
-        Err(_) => refused(rt, text),
-    }
-}
+// Contacts files, and before each the line and the cause of its refusal.
+const REFUSED: &str = "1 C1 alert_range
+2 C1 |range = 5
+1 C1 = 5
+1 C1 alert_range = 5 \"
+1 C1 range = x
+1 C2 alert_range =
+1 C2 alert_range = 5 m
+1 C2 alert_range = \"5\"
+1 C2 alert_range = -0.001
+1 C2 clear_range = 10000.001|x
+1 C3 alert_range = 61
+2 C3 clear_range = 49.999|// the end|
+2 C1 clear_range = 10|x";
 
 #[test]
-fn good_contacts_files(rt: HostRuntime) {
-    for (text, wanted) in GOOD {
-        reads_as(&rt, rt.alloc(), *text, *wanted);
+fn contacts_files(rt: HostRuntime) {
+    for (text, alert, clear) in GOOD {
+        let ranges = Ranges::read(bytes_of(&rt, *text)).expect(&rt, *text);
+        check(&rt, ranges.alert == *alert, *text);
+        check(&rt, ranges.clear == *clear, *text);
     }
-}
-
-#[test]
-fn bad_contacts_files(rt: HostRuntime) {
-    are_refused(&rt, rt.alloc(), Kind::Contacts, b"", BAD);
+    are_judged(&rt, rt.alloc(), Kind::Contacts, b"", REFUSED);
 }
 
 // Reports, with their name, position, speed and heading; nothing of those that aren't good.
-const REPORTS: &[(&[u8], &[u8])] = &[
-    (b"NAME=b,X=-1.5,Y=2,SPD=3,HDG=4", b"b -1.5 2 3 4"),
+const REPORTS: &[(&str, &str)] = &[
+    ("NAME=b,X=-1.5,Y=2,SPD=3,HDG=4", "b -1.5 2 3 4"),
     (
-        b" name = b ,\tx=+1, Y = .5 ,Spd=0,HDG=360,TYPE=kayak,LENGTH=",
-        b"b 1 0.5 0 360",
+        " name = b ,\tx=+1, Y = .5 ,Spd=0,HDG=360,TYPE=kayak,LENGTH=",
+        "b 1 0.5 0 360",
     ),
     (
-        b"HDG=0,SPD=100,Y=-1000000,X=1000000.0009,NAME=abcdefghijklmnopqrstuvwxyz_-.012",
-        b"abcdefghijklmnopqrstuvwxyz_-.012 1000000 -1000000 100 0",
+        "HDG=0,SPD=100,Y=-1000000,X=1000000.0009,NAME=abcdefghijklmnopqrstuvwxyz_-.012",
+        "abcdefghijklmnopqrstuvwxyz_-.012 1000000 -1000000 100 0",
     ),
-    (b"NAME=b,X=1", b""),
-    (b"", b""),
-    (b"NAME=b,X=1,Y=2,SPD=3,HDG=4,x=1", b""),
-    (b"NAME=b,X=1,Y=2,SPD=3,HDG=4,name=b", b""),
-    (b"NAME=b,X=1,Y=2,SPD=3,HDG=4,", b""),
-    (b"NAME=b,X=1,,Y=2,SPD=3,HDG=4", b""),
-    (b"NAME=b,X=1,Y=2,SPD=3,HDG=4,kayak", b""),
-    (b"NAME=,X=1,Y=2,SPD=3,HDG=4", b""),
-    (b"NAME=\"b\",X=1,Y=2,SPD=3,HDG=4", b""),
-    (b"NAME=b c,X=1,Y=2,SPD=3,HDG=4", b""),
+    ("NAME=b,X=1", ""),
+    ("", ""),
+    ("NAME=b,X=1,Y=2,SPD=3,HDG=4,x=1", ""),
+    ("NAME=b,X=1,Y=2,SPD=3,HDG=4,name=b", ""),
+    ("NAME=b,X=1,Y=2,SPD=3,HDG=4,", ""),
+    ("NAME=b,X=1,,Y=2,SPD=3,HDG=4", ""),
+    ("NAME=b,X=1,Y=2,SPD=3,HDG=4,kayak", ""),
+    ("NAME=,X=1,Y=2,SPD=3,HDG=4", ""),
+    ("NAME=\"b\",X=1,Y=2,SPD=3,HDG=4", ""),
+    ("NAME=b c,X=1,Y=2,SPD=3,HDG=4", ""),
     (
-        b"NAME=abcdefghijklmnopqrstuvwxyz_-.0123,X=1,Y=2,SPD=3,HDG=4",
-        b"",
+        "NAME=abcdefghijklmnopqrstuvwxyz_-.0123,X=1,Y=2,SPD=3,HDG=4",
+        "",
     ),
-    (b"NAME=b,X=1000000.001,Y=2,SPD=3,HDG=4", b""),
-    (b"NAME=b,X=1,Y=-1000000.001,SPD=3,HDG=4", b""),
-    (b"NAME=b,X=east,Y=2,SPD=3,HDG=4", b""),
-    (b"NAME=b,X=1,Y=2,SPD=-1,HDG=4", b""),
-    (b"NAME=b,X=1,Y=2,SPD=100.001,HDG=4", b""),
-    (b"NAME=b,X=1,Y=2,SPD=3,HDG=360.001", b""),
-    (b"NAME=b,X=1,Y=2,SPD=3,HDG=-1", b""),
+    ("NAME=b,X=1000000.001,Y=2,SPD=3,HDG=4", ""),
+    ("NAME=b,X=1,Y=-1000000.001,SPD=3,HDG=4", ""),
+    ("NAME=b,X=east,Y=2,SPD=3,HDG=4", ""),
+    ("NAME=b,X=1,Y=2,SPD=-1,HDG=4", ""),
+    ("NAME=b,X=1,Y=2,SPD=100.001,HDG=4", ""),
+    ("NAME=b,X=1,Y=2,SPD=3,HDG=360.001", ""),
+    ("NAME=b,X=1,Y=2,SPD=3,HDG=-1", ""),
 ];
 
 fn shown(rt: &impl Abort, alloc: Global, report: &Report) -> Vec<u8> {
     let mut text = joined(rt, alloc, &[report.name.bytes()]);
-    for number in [report.x, report.y, report.speed, report.heading] {
-        append_milli(rt, &mut text, number);
-    }
+    append_milli(rt, &mut text, b" ", report.x);
+    append_milli(rt, &mut text, b" ", report.y);
+    append_milli(rt, &mut text, b" ", report.speed);
+    append_milli(rt, &mut text, b" ", report.heading);
     text
-}
-
-fn append_milli(rt: &impl Abort, text: &mut Vec<u8>, number: Milli) {
-    append(rt, text, &[b" ", print_milli(number).bytes()]);
 }
 
 #[test]
 fn node_reports(rt: HostRuntime) {
-    let alloc = rt.alloc();
     for (text, wanted) in REPORTS {
-        let shown = match read_report(alloc, *text).expect(&rt, "memory") {
-            Some(report) => shown(&rt, alloc, &report),
-            None => Vec::new(alloc),
-        };
-        is_shown(&rt, &shown, *wanted, *text);
+        match read_report(rt.alloc(), text.as_bytes()).expect(&rt, "memory") {
+            Some(report) => is_shown(&rt, &shown(&rt, rt.alloc(), &report), *wanted, *text),
+            None => check(&rt, wanted.is_empty(), *text),
+        }
     }
 }

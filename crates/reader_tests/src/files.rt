@@ -1,10 +1,13 @@
-// What the kinds of files share: how each is refused, and texts that come up to a limit.
+// What the kinds of files share: how each is refused, and texts that are made of pieces.
+ghost use Rattle.std.specs.Prelude.{◌<◌, ◌^◌, length};
+
 use bhv_reader::{BhvFile, read_behaviors};
 use contact_avoid::Ranges;
 use ivp_domain::{Axis, AxisName, Domain};
 use mission_reader::read_mission;
+use moos_post::Milli;
 use moos_share::read_bridge;
-use moos_text::{Cause, ReadFault, print_unsigned};
+use moos_text::{ReadFault, print_milli, print_unsigned};
 use script_reader::read_script;
 use sim_vehicle::Craft;
 use std::alloc::Global;
@@ -15,7 +18,10 @@ use std::process::Abort;
 pub(crate) enum Kind {
     Script,
     Mission,
+    /// Behaviours over a domain of course, speed and depth.
     Behaviors,
+    /// Behaviours over a domain of courses alone.
+    OnCourse,
     Vehicle,
     Contacts,
     Bridge,
@@ -31,103 +37,97 @@ fn axis(rt: &impl Abort, name: &[u8]) -> Axis {
     }
 }
 
-fn domain(rt: &impl Abort) -> Domain {
-    match Domain::make(&[axis(rt, b"course"), axis(rt, b"speed"), axis(rt, b"depth")]) {
-        Ok(domain) => domain,
-        Err(_) => panic!(rt; "a domain"),
-    }
-}
-
-fn read_for_domain(rt: &impl Abort, alloc: Global, text: &[u8]) -> Result<BhvFile, ReadFault> {
-    assert!(rt; text.len() < 4_000_000_000);
-    read_behaviors(alloc, text, &domain(rt))
-}
-
-/// What is said of a behaviour file over a domain of courses alone.
-pub(crate) fn refusal_on_course(rt: &impl Abort, alloc: Global, text: &[u8]) -> Option<ReadFault> {
-    assert!(rt; text.len() < 4_000_000_000);
-    match Domain::make(&[axis(rt, b"course")]) {
-        Ok(domain) => read_behaviors(alloc, text, &domain).err(),
-        Err(_) => panic!(rt; "a domain"),
-    }
-}
-
-/// A good behaviour file for a domain of course, speed and depth.
-pub(crate) fn behaviors(rt: &impl Abort, alloc: Global, text: &[u8]) -> BhvFile {
-    match read_for_domain(rt, alloc, text) {
-        Ok(file) => file,
-        Err(_) => panic!(rt; "a behaviour file"),
-    }
-}
-
-/// What is said of a text that is refused.
-pub(crate) fn refusal(
+fn read_over(
     rt: &impl Abort,
     alloc: Global,
-    kind: Kind,
     text: &[u8],
-) -> Option<ReadFault> {
+    axes: &[Axis],
+) -> Result<BhvFile, ReadFault> {
+    assert!(rt; text.len() < 4_000_000_000);
+    assert!(rt; 0 < axes.len() && axes.len() <= 4);
+    let domain = Domain::make(axes).expect(rt, "a domain");
+    read_behaviors(alloc, text, &domain)
+}
+
+/// A behaviour file over a domain of course, speed and depth.
+pub(crate) fn read_over_three(
+    rt: &impl Abort,
+    alloc: Global,
+    text: &[u8],
+) -> Result<BhvFile, ReadFault> {
+    let axes = [axis(rt, b"course"), axis(rt, b"speed"), axis(rt, b"depth")];
+    read_over(rt, alloc, text, &axes)
+}
+
+// What is said of a text that is refused.
+fn refusal(rt: &impl Abort, alloc: Global, kind: Kind, text: &[u8]) -> Option<ReadFault> {
     assert!(rt; text.len() < 4_000_000_000);
     match kind {
         Kind::Script => read_script(alloc, text).err(),
         Kind::Mission => read_mission(alloc, text).err(),
-        Kind::Behaviors => read_for_domain(rt, alloc, text).err(),
+        Kind::Behaviors => read_over_three(rt, alloc, text).err(),
+        Kind::OnCourse => read_over(rt, alloc, text, &[axis(rt, b"course")]).err(),
         Kind::Vehicle => Craft::read(text).err(),
         Kind::Contacts => Ranges::read(text).err(),
         Kind::Bridge => read_bridge(alloc, text).err(),
     }
 }
 
-/// Each text, behind the same beginning, is refused at its line for its cause.
-pub(crate) fn are_refused(
-    rt: &impl Abort,
-    alloc: Global,
-    kind: Kind,
-    beginning: &[u8],
-    rows: &[(&[u8], u32, Cause)],
-) {
-    for (end, line, cause) in rows {
-        let text = joined(rt, alloc, &[beginning, *end]);
-        let at = ReadFault::At {
-            line: *line,
-            cause: *cause,
-        };
-        assert_eq!(rt; refusal(rt, alloc, kind, &text), Some(at), "{end:?}");
+// Whether a row says this line and this cause, which it gives by its code, or by its name if that is a limit of a script.
+fn says(row: &str, line: u32, cause: &str) -> bool {
+    let mut words = row.split_whitespace();
+    let number = words.next().unwrap_or("").parse::<u32>().ok();
+    let wanted = words.next();
+    let mut told = cause.split_whitespace();
+    number == Some(line) && (told.next() == wanted || told.next() == wanted)
+}
+
+// What a row says behind its line and its cause, with the same beginning; `|` stands for the end of a line.
+fn text_of(rt: &impl Abort, alloc: Global, beginning: &[u8], row: &str) -> Vec<u8> {
+    let said = row.splitn(3, ' ').nth(2).unwrap_or("");
+    let mut text = Vec::from_slice(alloc, beginning).expect(rt, "memory");
+    for byte in said.as_bytes() {
+        let byte = if *byte == b'|' { b'\n' } else { *byte };
+        text.push(byte).expect(rt, "memory");
+    }
+    text
+}
+
+// A text is judged as its row says.
+fn is_judged(rt: &impl Abort, fault: Option<ReadFault>, row: &str) {
+    let is_so = match fault {
+        Some(ReadFault::At { line, cause }) => says(row, line, cause.text()),
+        Some(ReadFault::NoMemory) => false,
+        None => says(row, 0, "good"),
+    };
+    check(rt, is_so, row);
+}
+
+/// What each row says behind its first two words is, with the same beginning, refused at this line for this cause; or it is good, if
+/// they are `0 good`.
+pub(crate) fn are_judged(rt: &impl Abort, alloc: Global, kind: Kind, beginning: &[u8], rows: &str) {
+    for row in rows.lines() {
+        let text = text_of(rt, alloc, beginning, row);
+        is_judged(rt, refusal(rt, alloc, kind, &text), row);
     }
 }
 
-/// The cause for which a text is refused at one of its lines.
-fn cause_of(rt: &impl Abort, alloc: Global, kind: Kind, text: &[u8]) -> Option<Cause> {
-    match refusal(rt, alloc, kind, text) {
-        Some(ReadFault::At { cause, .. }) => Some(cause),
-        _ => None,
-    }
+/// What is found of a text is as it is wanted.
+pub(crate) fn check(rt: &impl Abort, is_so: bool, text: &str) {
+    assert!(rt; is_so, "{text:?}");
 }
 
-/// A text that keeps a limit is good, and with each of these ends it is refused for its cause.
-pub(crate) fn stands_at(
-    rt: &impl Abort,
-    alloc: Global,
-    kind: Kind,
-    good: &[u8],
-    ends: &[(&[u8], Cause)],
-) {
-    assert!(rt; refusal(rt, alloc, kind, good).is_none());
-    for (end, cause) in ends {
-        let text = joined(rt, alloc, &[good, *end]);
-        let found = cause_of(rt, alloc, kind, &text);
-        assert!(rt; found == Some(*cause), "{end:?}");
-    }
+/// The bytes of a text, which are few.
+pub(crate) fn bytes_of<'a>(rt: &impl Abort, text: &'a str) -> &'a [u8]
+    ensures { length result.now < 2 ^ 32 }
+{
+    assert!(rt; text.len() < 1000);
+    text.as_bytes()
 }
 
 /// What is shown of a text is as it is wanted.
-pub(crate) fn is_shown(rt: &impl Abort, shown: &[u8], wanted: &[u8], text: &[u8]) {
-    assert_eq!(rt; shown, wanted, "{text:?}");
-}
-
-/// A text that should be good was refused.
-pub(crate) fn refused(rt: &impl Abort, text: &[u8]) {
-    assert!(rt; false, "{text:?}");
+pub(crate) fn is_shown(rt: &impl Abort, shown: &[u8], wanted: &str, text: &str) {
+    check(rt, shown == wanted.as_bytes(), text);
 }
 
 /// Appends the pieces.
@@ -144,7 +144,22 @@ pub(crate) fn joined(rt: &impl Abort, alloc: Global, pieces: &[&[u8]]) -> Vec<u8
     text
 }
 
-/// Appends a number between what is before it and behind it.
+/// Appends a number behind what is before it.
+pub(crate) fn append_milli(rt: &impl Abort, text: &mut Vec<u8>, before: &[u8], number: Milli) {
+    append(rt, text, &[before, print_milli(number).bytes()]);
+}
+
+/// Appends thousandths without a sign behind what is before them.
+pub(crate) fn append_unsigned(
+    rt: &impl Abort,
+    text: &mut Vec<u8>,
+    before: &[u8],
+    thousandths: u64,
+) {
+    append(rt, text, &[before, print_unsigned(thousandths).bytes()]);
+}
+
+/// Appends a count between what is before it and behind it.
 pub(crate) fn append_number(
     rt: &impl Abort,
     text: &mut Vec<u8>,
@@ -152,22 +167,6 @@ pub(crate) fn append_number(
     number: u32,
     behind: &[u8],
 ) {
-    let number = print_unsigned(number as u64 * 1000);
-    append(rt, text, &[before, number.bytes(), behind]);
-}
-
-/// A beginning, then `times` times what is before a count, the count from 0 up, and what follows it.
-pub(crate) fn counted(
-    rt: &impl Abort,
-    alloc: Global,
-    beginning: &[u8],
-    times: u32,
-    before: &[u8],
-    behind: &[u8],
-) -> Vec<u8> {
-    let mut text = joined(rt, alloc, &[beginning]);
-    for number in 0..times {
-        append_number(rt, &mut text, before, number, behind);
-    }
-    text
+    append_unsigned(rt, text, before, number as u64 * 1000);
+    append(rt, text, &[behind]);
 }

@@ -2,8 +2,8 @@
 //! give what was worked by hand.
 //!
 //! The tests of these crates are here, since a crate with tests of its own is proved once more with them. One module for
-//! each subject: `outside`, `texts`, `words` and `pairs`, `scripts`, `bridges`, `missions`, `mode_files` and `behavior_files`,
-//! `generated` missions, `vehicles`, `contact_files` with node reports, and `files`, which has what the kinds of files share.
+//! each subject: `outside`, `texts` and `pairs`, `scripts`, `bridges`, `missions`, `behavior_files`, `vehicles`, `contact_files`
+//! with node reports, the `limits` of all of these, and `files`, which has what the kinds of files share.
 #![tactic(auto)]
 
 #[cfg(test)]
@@ -15,11 +15,9 @@ mod contact_files;
 #[cfg(test)]
 mod files;
 #[cfg(test)]
-mod generated;
+mod limits;
 #[cfg(test)]
 mod missions;
-#[cfg(test)]
-mod mode_files;
 #[cfg(test)]
 mod outside;
 #[cfg(test)]
@@ -30,5 +28,3 @@ mod scripts;
 mod texts;
 #[cfg(test)]
 mod vehicles;
-#[cfg(test)]
-mod words;

@@ -1,5 +1,5 @@
 // Folders and sinks: in memory, and the real ones.
-use crate::files::append;
+use crate::files::{append, check, joined};
 use moos_io::*;
 use std::alloc::Global;
 use std::fs;
@@ -11,22 +11,23 @@ fn loads<F: Folder>(
     rt: &impl Abort,
     alloc: Global,
     folder: &mut F,
-    rows: &[(&[u8], Result<(), LoadFault>, &[u8])],
+    rows: &[(&[u8], Result<(), LoadFault>, &str)],
 ) {
     for (name, answer, after) in rows {
-        let mut into = b">".to_vec(alloc).expect(rt, "memory");
-        assert!(rt; folder.load(*name, &mut into) == *answer, "{name:?}");
-        assert!(rt; into.as_slice() == *after, "{name:?}");
+        let mut into = joined(rt, alloc, &[b">"]);
+        let found = folder.load(*name, &mut into);
+        let is_so = found == *answer && into.as_slice() == after.as_bytes();
+        assert!(rt; is_so, "{name:?}");
     }
 }
 
 const FILES: &[(&[u8], &[u8])] = &[(b"a", b"one"), (b"b", b""), (b"a", b"two")];
 
-const LOADED: &[(&[u8], Result<(), LoadFault>, &[u8])] = &[
-    (b"a", Ok(()), b">one"),
-    (b"b", Ok(()), b">"),
-    (b"ab", Err(LoadFault::Failed), b">"),
-    (b"", Err(LoadFault::Failed), b">"),
+const LOADED: &[(&[u8], Result<(), LoadFault>, &str)] = &[
+    (b"a", Ok(()), ">one"),
+    (b"b", Ok(()), ">"),
+    (b"ab", Err(LoadFault::Failed), ">"),
+    (b"", Err(LoadFault::Failed), ">"),
 ];
 
 #[test]
@@ -39,84 +40,90 @@ fn first_file_of_a_name_is_loaded(rt: HostRuntime) {
     loads(&rt, rt.alloc(), &mut folder, LOADED);
 }
 
-fn sink(rt: &impl Abort, alloc: Global, room: usize, mark: Option<u64>) -> MemSink {
-    let mut sink = MemSink::make(alloc, room, 2).expect(rt, "memory");
+const REAL: &[(&[u8], Result<(), LoadFault>, &str)] = &[
+    (b"moos_io_loaded", Ok(()), ">content\n"),
+    (b"moos_io_absent", Err(LoadFault::Failed), ">"),
+    (b".", Err(LoadFault::Failed), ">"),
+    (b"\xff", Err(LoadFault::Failed), ">"),
+];
+
+// A load of the file gives this answer, and then so many bytes are there.
+fn loads_many<F: Folder>(
+    rt: &impl Abort,
+    alloc: Global,
+    folder: &mut F,
+    answer: Result<(), LoadFault>,
+    after: usize,
+) {
+    let mut into = Vec::new(alloc);
+    let found = folder.load(b"moos_io_loaded", &mut into);
+    check(rt, found == answer, "a long file is loaded");
+    check(rt, into.len() == after, "a long file is there");
+}
+
+#[test]
+fn real_files_are_loaded_up_to_the_limit(rt: HostRuntime) {
+    let alloc = rt.alloc();
+    let path = "moos_io_loaded";
+    fs::write(&rt, path, "content\n").expect(&rt, path);
+    let mut folder = DirFolder::make(&rt);
+    loads(&rt, alloc, &mut folder, REAL);
+    let file = File::create(&rt, path).expect(&rt, path);
+    file.set_len(16_777_216).expect(&rt, path);
+    loads_many(&rt, alloc, &mut folder, Ok(()), 16_777_216);
+    file.set_len(16_777_217).expect(&rt, path);
+    loads_many(&rt, alloc, &mut folder, Err(LoadFault::Failed), 0);
+    fs::remove_file(&rt, path).expect(&rt, path);
+}
+
+// A sink for `room` bytes, of which one put takes at most `limit`, and one put fails.
+fn sink(rt: &impl Abort, alloc: Global, room: usize, limit: usize, mark: Option<u64>) -> MemSink {
+    assert!(rt; 0 < limit);
+    let mut sink = MemSink::make(alloc, room, limit).expect(rt, "memory");
     if let Some(nth) = mark {
         sink.fail_at(nth).expect(rt, "memory");
     }
     sink
 }
 
+// The piece is put, as a whole or not, and then the sink has these bytes.
+fn puts(rt: &impl Abort, out: &mut MemSink, piece: &str, answer: Result<(), Failed>, after: &str) {
+    let found = put_all(out, piece.as_bytes());
+    check(rt, found == answer, piece);
+    check(rt, out.bytes() == after.as_bytes(), piece);
+}
+
 // The room of a sink and the put that fails, what is put, what the puts answer, and what the sink then has.
-const PUTS: &[(usize, Option<u64>, &[u8], Result<(), Failed>, &[u8])] = &[
-    (5, None, b"abcde", Ok(()), b"abcde"),
-    (5, None, b"abcdef", Err(Failed), b"abcde"),
-    (5, Some(0), b"abcde", Err(Failed), b""),
-    (5, Some(1), b"abcde", Err(Failed), b"ab"),
-    (5, Some(3), b"abcde", Ok(()), b"abcde"),
-    (0, None, b"", Ok(()), b""),
+const PUTS: &[(usize, Option<u64>, &str, Result<(), Failed>, &str)] = &[
+    (5, None, "abcde", Ok(()), "abcde"),
+    (5, None, "abcdef", Err(Failed), "abcde"),
+    (5, Some(0), "abcde", Err(Failed), ""),
+    (5, Some(1), "abcde", Err(Failed), "ab"),
+    (5, Some(3), "abcde", Ok(()), "abcde"),
+    (0, None, "", Ok(()), ""),
 ];
 
 #[test]
 fn sink_takes_what_room_and_marks_allow(rt: HostRuntime) {
     for (room, mark, piece, answer, after) in PUTS {
-        let mut out = sink(&rt, rt.alloc(), *room, *mark);
-        assert_eq!(rt; put_all(&mut out, *piece), *answer);
-        assert_eq!(rt; out.bytes(), *after);
+        let mut out = sink(&rt, rt.alloc(), *room, 2, *mark);
+        puts(&rt, &mut out, *piece, *answer, *after);
     }
 }
 
 #[test]
 fn marked_put_fails_once(rt: HostRuntime) {
-    let mut out = sink(&rt, rt.alloc(), 5, Some(1));
-    assert_eq!(rt; put_all(&mut out, b"abc"), Err(Failed));
-    assert_eq!(rt; put_all(&mut out, b"cde"), Ok(()));
-    assert_eq!(rt; out.bytes(), b"abcde".as_slice());
-}
-
-const REAL: &[(&[u8], Result<(), LoadFault>, &[u8])] = &[
-    (b"moos_io_loaded", Ok(()), b">content\n"),
-    (b"moos_io_absent", Err(LoadFault::Failed), b">"),
-    (b".", Err(LoadFault::Failed), b">"),
-    (b"\xff", Err(LoadFault::Failed), b">"),
-];
-
-// Sizes of a file, what a load of it answers, and how many bytes are then there.
-const SIZES: [(u64, Result<(), LoadFault>, usize); 2] = [
-    (16_777_216, Ok(()), 16_777_216),
-    (16_777_217, Err(LoadFault::Failed), 0),
-];
-
-#[test]
-fn real_files_are_loaded_up_to_the_limit(rt: HostRuntime) {
-    let path = "moos_io_loaded";
-    fs::write(&rt, path, "content\n").expect(&rt, "a file");
-    let mut folder = DirFolder::make(&rt);
-    loads(&rt, rt.alloc(), &mut folder, REAL);
-    let file = File::create(&rt, path).expect(&rt, "a file");
-    for (len, answer, after) in SIZES {
-        file.set_len(len).expect(&rt, "a file");
-        let mut into = Vec::new(rt.alloc());
-        assert_eq!(rt; folder.load(path.as_bytes(), &mut into), answer);
-        assert_eq!(rt; into.len(), after);
-    }
-    fs::remove_file(&rt, path).expect(&rt, "a file");
+    let mut out = sink(&rt, rt.alloc(), 5, 2, Some(1));
+    puts(&rt, &mut out, "abc", Err(Failed), "ab");
+    puts(&rt, &mut out, "cde", Ok(()), "abcde");
 }
 
 #[test]
-fn standard_output_takes_all(rt: HostRuntime) {
+fn what_never_fails(rt: HostRuntime) {
     let mut out = OutSink::make(&rt);
-    assert_eq!(rt; put_all(&mut out, b"written by a test\n"), Ok(()));
-}
-
-fn pass<G: Gate>(gate: &G) {
-    gate.at_node(0, 0);
-    gate.at_call(0, 0);
-}
-
-#[test]
-fn open_gate_is_passed() {
-    pass(&NoGate);
+    put_all(&mut out, b"written by a test\n").expect(&rt, "a put");
+    NoGate.at_node(0, 0);
+    NoGate.at_call(0, 0);
 }
 
 // 4,000 times `word `, and then a piece that is longer than the buffer.
@@ -139,28 +146,25 @@ fn words_and_long(rt: &impl Abort, alloc: Global, long: &[u8]) -> Vec<u8> {
     whole
 }
 
-fn marked_sink(rt: &impl Abort, alloc: Global, mark: u64) -> MemSink {
-    let mut sink = MemSink::make(alloc, 40000, 32768).expect(rt, "memory");
-    sink.fail_at(mark).expect(rt, "memory");
-    sink
-}
-
 // The put that fails, what is answered, and how many bytes are put before.
-const RUNS: [(u64, Result<(), Failed>, usize); 5] = [
-    (4, Ok(()), 37006),
-    (3, Err(Failed), 37005),
-    (2, Err(Failed), 20005),
-    (1, Err(Failed), 16384),
-    (0, Err(Failed), 0),
+const RUNS: &[(&str, u64, Result<(), Failed>, usize)] = &[
+    ("no put", 4, Ok(()), 37006),
+    ("the last put", 3, Err(Failed), 37005),
+    ("the third put", 2, Err(Failed), 20005),
+    ("the second put", 1, Err(Failed), 16384),
+    ("the first put", 0, Err(Failed), 0),
 ];
 
 #[test]
 fn buffer_passes_words_on_in_few_puts(rt: HostRuntime) {
+    let alloc = rt.alloc();
     let long = [b'x'; 17000];
-    let whole = words_and_long(&rt, rt.alloc(), &long);
-    for (mark, answer, len) in RUNS {
-        let mut sink = marked_sink(&rt, rt.alloc(), mark);
-        assert_eq!(rt; write_words(&mut sink, &long), answer);
-        assert!(rt; sink.bytes().len() == len && whole.as_slice().starts_with(sink.bytes()));
+    let whole = words_and_long(&rt, alloc, &long);
+    for (row, mark, answer, len) in RUNS {
+        let mut out = sink(&rt, alloc, 40000, 32768, Some(*mark));
+        let found = write_words(&mut out, &long);
+        check(&rt, found == *answer, *row);
+        check(&rt, out.bytes().len() == *len, *row);
+        check(&rt, whole.as_slice().starts_with(out.bytes()), *row);
     }
 }

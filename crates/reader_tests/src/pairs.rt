@@ -1,79 +1,71 @@
-// Pairs that stand for a number, for a text and for nothing.
-use crate::files::{append, joined};
-use moos_post::Value;
+// Pairs that stand for a number and for a text, and texts that are no pair.
+use crate::files::{append, check, is_shown};
+use crate::limits::counted;
+use crate::scripts::show_pair;
 use moos_text::{PairFault, read_pair};
 use std::alloc::Global;
 use std::process::Abort;
 
-// What a pair stands for.
-#[derive(Clone, Copy)]
-enum Held<'a> {
-    Number(i64),
-    Text(&'a [u8]),
-    Nothing(PairFault),
-}
-
-// Texts, the variable that each is of and what it stands for.
-const PAIRS: &[(&[u8], &[u8], Held<'static>)] = &[
-    (b"X=1.5", b"X", Held::Number(1_500)),
-    (b"\t DEPLOY = true ", b"DEPLOY", Held::Text(b"true")),
-    (b"X:=1.5", b"X", Held::Text(b"1.5")),
-    (b"X := \"1\"", b"X", Held::Text(b"1")),
-    (b"X=\"\"", b"X", Held::Text(b"")),
-    (b"X= \" a # = b \"", b"X", Held::Text(b" a # = b ")),
-    (b"X=1e3", b"X", Held::Text(b"1e3")),
-    (b"X=1000000001", b"X", Held::Text(b"1000000001")),
-    (b"X=a=b", b"X", Held::Text(b"a=b")),
-    (b"X=a\"b\"", b"X", Held::Text(b"a\"b\"")),
-    (b"X", b"", Held::Nothing(PairFault::NoEquals)),
-    (b"", b"", Held::Nothing(PairFault::NoEquals)),
-    (b"=1", b"", Held::Nothing(PairFault::BadName)),
-    (b"X : = 1", b"", Held::Nothing(PairFault::BadName)),
-    (b"X::=1", b"", Held::Nothing(PairFault::BadName)),
-    (b"9X=", b"", Held::Nothing(PairFault::BadName)),
-    (b"X= ", b"", Held::Nothing(PairFault::BadValue)),
-    (b"X:=", b"", Held::Nothing(PairFault::BadValue)),
-    (b"X=\"", b"", Held::Nothing(PairFault::BadValue)),
-    (b"X=\"a\"b", b"", Held::Nothing(PairFault::BadValue)),
-    (b"X=\"a\"\"", b"", Held::Nothing(PairFault::BadValue)),
-    (b"X=a\x7f", b"", Held::Nothing(PairFault::BadValue)),
+// Texts, and the pair that each is, with its text between `<` and `>`.
+const PAIRS: &[(&str, &str)] = &[
+    ("X=1.5", "X=1.5"),
+    ("\t DEPLOY = true ", "DEPLOY=<true>"),
+    ("X:=1.5", "X=<1.5>"),
+    ("X := \"1\"", "X=<1>"),
+    ("X=\"\"", "X=<>"),
+    ("X= \" a # = b \"", "X=< a # = b >"),
+    ("X=1e3", "X=<1e3>"),
+    ("X=1000000001", "X=<1000000001>"),
+    ("X=a=b", "X=<a=b>"),
+    ("X=a\"b\"", "X=<a\"b\">"),
 ];
 
-fn is_held(value: &Value, held: Held<'_>) -> bool {
-    match held {
-        Held::Number(thousandths) => {
-            matches!(value, Value::Num(number) if number.get() == thousandths)
-        }
-        Held::Text(bytes) => matches!(value, Value::Text(text) if text.bytes() == bytes),
-        Held::Nothing(_) => false,
-    }
+fn is_pair(rt: &impl Abort, alloc: Global, text: &str, wanted: &str) {
+    let mut shown = Vec::new(alloc);
+    let pair = read_pair(alloc, text.as_bytes()).expect(rt, text);
+    show_pair(rt, &mut shown, &pair);
+    is_shown(rt, &shown, wanted, text);
 }
 
-fn stands_for(alloc: Global, text: &[u8], var: &[u8], held: Held<'_>) -> bool {
-    match read_pair(alloc, text) {
-        Ok(pair) => pair.var.bytes() == var && is_held(&pair.value, held),
-        Err(fault) => matches!(held, Held::Nothing(expected) if expected == fault),
-    }
+// Texts that are no pair, and why.
+const FAULTS: &[(&str, PairFault)] = &[
+    ("X", PairFault::NoEquals),
+    ("", PairFault::NoEquals),
+    ("=1", PairFault::BadName),
+    ("X : = 1", PairFault::BadName),
+    ("X::=1", PairFault::BadName),
+    ("9X=", PairFault::BadName),
+    ("X= ", PairFault::BadValue),
+    ("X:=", PairFault::BadValue),
+    ("X=\"", PairFault::BadValue),
+    ("X=\"a\"b", PairFault::BadValue),
+    ("X=\"a\"\"", PairFault::BadValue),
+    ("X=a\x7f", PairFault::BadValue),
+];
+
+fn is_refused(rt: &impl Abort, alloc: Global, text: &[u8], fault: PairFault, row: &str) {
+    check(rt, read_pair(alloc, text).err() == Some(fault), row);
 }
 
 #[test]
 fn pairs(rt: HostRuntime) {
-    for (text, var, held) in PAIRS {
-        assert!(rt; stands_for(rt.alloc(), *text, *var, *held), "{text:?}");
+    let alloc = rt.alloc();
+    for (text, wanted) in PAIRS {
+        is_pair(&rt, alloc, *text, *wanted);
     }
-}
-
-fn is_refused(rt: &impl Abort, alloc: Global, text: &[u8], fault: PairFault) {
-    assert!(rt; read_pair(alloc, text).err() == Some(fault));
+    for (text, fault) in FAULTS {
+        is_refused(&rt, alloc, text.as_bytes(), *fault, *text);
+    }
 }
 
 // A text of more than 4,096 bytes is told as such, but not before a byte that it can't hold.
 #[test]
 fn long_pairs(rt: HostRuntime) {
-    let mut text = joined(&rt, rt.alloc(), &[b"X=", &[b'a'; 4096]]);
-    assert!(rt; read_pair(rt.alloc(), &text).is_ok());
+    let alloc = rt.alloc();
+    let mut text = counted(&rt, alloc, "X=", 4096, "a");
+    check(&rt, read_pair(alloc, &text).is_ok(), "4,096 bytes");
     append(&rt, &mut text, &[b"a"]);
-    is_refused(&rt, rt.alloc(), &text, PairFault::TooLong);
+    is_refused(&rt, alloc, &text, PairFault::TooLong, "4,097 bytes");
     append(&rt, &mut text, &[b"\r"]);
-    is_refused(&rt, rt.alloc(), &text, PairFault::BadValue);
+    is_refused(&rt, alloc, &text, PairFault::BadValue, "a control byte");
 }

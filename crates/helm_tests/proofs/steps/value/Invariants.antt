@@ -1,4 +1,4 @@
-use Rattle.helm_tests.proofs.kinds.value.Given as goal
+use Rattle.helm_tests.proofs.steps.value.Given as goal
 
 abbrev pub ghosts-counted : goal.ghosts-counted
 ghosts-counted a = record { name = a.blank.name; parts = a.blank.parts }
