@@ -5,11 +5,11 @@ use Rattle.moos_text.specs.Numbers.{milli_of, whole_of}
 use Rattle.ivp_domain.specs.declared.axis.Axis.{Axis}
 use Rattle.ivp_domain.specs.AxisNames.{is_axis_name}
 
--- the fields of a text: it is cut at each `:`
+-- the fields of a text: it is cut at each `:`, and an empty text is one empty field
 abbrev pub fields_of : List ℕ → List (List ℕ)
 fields_of text = slice_split (λ byte. byte == 58) text
 
--- an axis by its name, its ends and its number of points, if all of them are good
+-- an axis by its name, its ends and its number of points, if its name is one of an axis and the three numbers can be read
 abbrev pub axis_with : List ℕ → Option ℤ → Option ℤ → Option ℕ → Option Axis
 axis_with name (Some low) (Some high) (Some points) =
     if is_axis_name name then Some (record { name = name; low = low; high = high; points = points }) else None

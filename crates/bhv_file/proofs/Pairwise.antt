@@ -15,7 +15,7 @@ use Rattle.std.proofs.lemmas.Bool.{and_from, and_parts}
 use Rattle.bhv_file.specs.Ranges.{KeepsRanges}
 use Rattle.bhv_file.specs.Validity.{IsValidSpec}
 use Rattle.bhv_file.specs.declared.table.CommonParameter.TheVariants.{Weight}
-use Rattle.bhv_file.specs.Table.{parameter_of, states_common, value_range}
+use Rattle.bhv_file.specs.Table.{is_called_common, parameter_of, value_range}
 use Rattle.bhv_file.specs.Values.{kept_if, setting_of, weight_of}
 use Rattle.bhv_file.specs.Serving.{has_few_boxes, is_slow, suits}
 use Rattle.bhv_file.specs.Updates.{is_consistent, is_good_over, update_parts, updated, with_update_part}
@@ -128,7 +128,7 @@ IsLeft of = (shape : Shape) (parameter : Parameter) (setting : Setting) → of (
 
 -- no parameter changes it
 param_leaves : {X : Type 0} (of : Shape → X) → IsLeft of → (spec : Spec) (name value : List ℕ) → IfSome (with_param spec name value) (λ s. of s.shape ≡ of spec.shape)
-param_leaves {X} of left spec name value = by (states_common name Weight) (weight_of value) (parameter_of spec.shape name)
+param_leaves {X} of left spec name value = by (is_called_common name Weight) (weight_of value) (parameter_of spec.shape name)
   where
     set : (parameter : Parameter) (setting : Option Setting) → IfSome (option_map (λ shape. record spec { shape = shape }) (option_map (with_field spec.shape parameter) setting)) (λ s. of s.shape ≡ of spec.shape)
     set parameter None = tt

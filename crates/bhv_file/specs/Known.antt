@@ -11,10 +11,10 @@ abbrev pub as_number : Value → Option ℤ
 as_number (Num number) = Some number
 as_number (Text text) = None
 
--- the latest value of a variable, if it is a number
+-- the latest value of a variable, if it is a number; it counts however long ago it was mailed
 abbrev pub latest_number : Knowledge → List ℕ → Option ℤ
 latest_number known var = option_and_then as_number (known var)
 
--- the own position, if both its numbers are known
+-- the own position by the latest values, however old, if both are numbers
 abbrev pub position_of : Knowledge → Option Spot
 position_of known = spot_of_numbers (latest_number known (codes "NAV_X")) (latest_number known (codes "NAV_Y"))

@@ -11,7 +11,7 @@ use Rattle.bhv_file.specs.declared.spec.Shape.TheVariants.{Heading, Speed, Depth
 use Rattle.bhv_file.specs.declared.spec.Spec.{Spec}
 use Rattle.bhv_file.specs.declared.table.Parameter.{Parameter}
 use Rattle.bhv_file.specs.declared.table.Parameter.TheVariants.{Heading as OfHeading, Speed as OfSpeed, Depth as OfDepth, PeakWidth, BaseWidth, SummitDelta, MaxDepth as OfMaxDepth, CaptureRadius, SlipRadius, InnerRadius, OuterRadius, OuterSpeed, ContactX, ContactY, ContactSpeed, ContactHeading, NearDistance, FarDistance}
-use Rattle.bhv_file.specs.Table.{parameter_of, value_range, states_common}
+use Rattle.bhv_file.specs.Table.{parameter_of, value_range, is_called_common}
 use Rattle.bhv_file.specs.declared.table.CommonParameter.TheVariants.{Weight}
 use Rattle.bhv_file.specs.Values.{setting_of, weight_of}
 
@@ -54,12 +54,12 @@ with_number_field (OpRegion polygon depth time) OfMaxDepth n = OpRegion polygon 
 with_number_field (AvoidCollision avoidance) parameter n = AvoidCollision (with_approach avoidance parameter n)
 with_number_field shape parameter n = shape
 
--- a behaviour with this time; a type has at most one, and likewise with what follows
+-- a behaviour with this time, if its type has one
 abbrev pub with_time : Shape → ℕ → Shape
 with_time (OpRegion polygon depth time) t = OpRegion polygon depth (Some t)
 with_time shape t = shape
 
--- a behaviour with this flag
+-- a behaviour with this flag, if its type has one
 abbrev pub with_flag : Shape → Bool → Shape
 with_flag (Waypoint points speed capture slip reverse repeat) flag = Waypoint points speed capture slip flag repeat
 with_flag (Loiter polygon speed capture slip clockwise) flag = Loiter polygon speed capture slip flag
@@ -67,29 +67,29 @@ with_flag (StationKeep point anew inner outer speed) flag = StationKeep point fl
 with_flag (AvoidCollision avoidance) flag = AvoidCollision (record avoidance { resolved = flag })
 with_flag shape flag = shape
 
--- a behaviour with this number of repeats
+-- a behaviour with this number of repeats, if its type has one
 abbrev pub with_repeat : Shape → Option ℕ → Shape
 with_repeat (Waypoint points speed capture slip reverse repeat) n = Waypoint points speed capture slip reverse n
 with_repeat shape n = shape
 
--- a behaviour with these places
+-- a behaviour with these places, if its type has some
 abbrev pub with_places : Shape → List Spot → Shape
 with_places (Waypoint points speed capture slip reverse repeat) spots = Waypoint spots speed capture slip reverse repeat
 with_places (Loiter polygon speed capture slip clockwise) spots = Loiter spots speed capture slip clockwise
 with_places (OpRegion polygon depth time) spots = OpRegion (Some spots) depth time
 with_places shape spots = shape
 
--- a behaviour with this one place
+-- a behaviour with this one place, if its type has one
 abbrev pub with_place : Shape → Spot → Shape
 with_place (StationKeep point anew inner outer speed) spot = StationKeep (Some spot) anew inner outer speed
 with_place shape spot = shape
 
--- a behaviour with this contact
+-- a behaviour with this contact, if its type has one
 abbrev pub with_contact : Shape → List ℕ → Shape
 with_contact (AvoidCollision avoidance) name = AvoidCollision (record avoidance { contact = Some name })
 with_contact shape name = shape
 
--- a behaviour with pieces of this size
+-- a behaviour with pieces of this size, if its type has them
 abbrev pub with_size : Shape → ℕ → Shape
 with_size (AvoidCollision avoidance) size = AvoidCollision (record avoidance { piece_size = size })
 with_size shape size = shape
@@ -113,11 +113,11 @@ with_value_of shape parameter value = option_map (with_field shape parameter) (s
 abbrev pub with_named : Shape → List ℕ → List ℕ → Option Shape
 with_named shape name value = option_and_then (λ parameter. with_value_of shape parameter value) (parameter_of shape name)
 
--- A behaviour with one pair more: its weight or a parameter of its type, with a value of its range. The relations between
+-- A behaviour with one more pair: its weight or a parameter of its type, with a value of its range. The relations between
 -- parameters aren't judged.
 abbrev pub with_param : Spec → List ℕ → List ℕ → Option Spec
 with_param spec name value =
-    if states_common name Weight then option_map (λ weight. record spec { weight = weight }) (weight_of value)
+    if is_called_common name Weight then option_map (λ weight. record spec { weight = weight }) (weight_of value)
     else option_map (λ shape. record spec { shape = shape }) (with_named spec.shape name value)
 
 -- a list of places isn't given, or a station that isn't taken anew
@@ -138,7 +138,8 @@ abbrev pub is_avoid : Shape → Bool
 is_avoid (AvoidCollision avoidance) = true
 is_avoid other = false
 
--- the names of the axes that a behaviour's function mentions
+-- the names of the axes that a behaviour's function mentions; that of a station mentions course also within the inner radius,
+-- where it wants nothing of it
 abbrev pub axes_of : Shape → List (List ℕ)
 axes_of (Heading summit peak base delta) = codes "course" ∷ []
 axes_of (Speed summit peak base delta) = codes "speed" ∷ []

@@ -12,7 +12,7 @@ abbrev pub parent_path : List (List (List ℕ)) → Option ℕ → List (List �
 parent_path paths None = []
 parent_path paths (Some parent) = slice_index_or paths parent []
 
--- one declaration more: its path has its own name first, and then those of its parent up to the root
+-- the paths with that of one more declaration: its own name first, and then those of its parent up to the root
 abbrev pub with_path : List (List (List ℕ)) → Decl → List (List (List ℕ))
 with_path paths decl = paths ++ (decl.name ∷ parent_path paths decl.parent) ∷ []
 

@@ -39,7 +39,7 @@ AvoidsInRanges avoidance =
     × IfSome avoidance.contact_speed (λ speed. IsAllowed ContactSpeed speed) × IfSome avoidance.contact_heading (λ heading. IsAllowed ContactHeading heading)
     × IsAllowed NearDistance avoidance.near × IsAllowed FarDistance avoidance.far × IsTrue (is_piece_size avoidance.piece_size)
 
--- Each parameter is in its range. A list of places may be empty if it needn't be given yet.
+-- Each parameter of a behaviour is in its range. A list of places may be empty if it needn't be given yet.
 abbrev pub InRanges : Bool → Shape → Type 0
 InRanges given (Heading summit peak base delta) = IsAllowed OfHeading summit × IsAllowed PeakWidth peak × IsAllowed BaseWidth base × IsAllowed SummitDelta delta
 InRanges given (Speed summit peak base delta) = IsAllowed OfSpeed summit × IsAllowed PeakWidth peak × IsAllowed BaseWidth base × IsAllowed SummitDelta delta

@@ -20,7 +20,7 @@ has_few_boxes domain other = true
 abbrev pub lies_slow : Axis → Bool
 lies_slow axis = int_le (pos 0) axis.low && int_le axis.high (pos 100000)
 
--- the axis of speed does, if there is one
+-- the axis of speed lies within 0 to 100, if there is one
 abbrev pub is_slow : List Axis → Bool
 is_slow domain = not (has_axis domain (codes "speed")) || lies_slow (named_axis domain (codes "speed"))
 

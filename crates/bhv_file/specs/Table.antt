@@ -138,7 +138,7 @@ needs_number (OpRegion polygon depth time) = false
 needs_number (AvoidCollision avoidance) = false
 needs_number other = true
 
--- that number is one of these
+-- the parameter is the one number without a default of a type that has such a number
 abbrev pub is_needed : Parameter → Bool
 is_needed OfHeading = true
 is_needed OfSpeed = true
@@ -176,9 +176,9 @@ common_name Perpetual = codes "perpetual"
 common_name Templating = codes "templating"
 
 -- the common parameter has this name; letters of both cases are the same
-abbrev pub states_common : List ℕ → CommonParameter → Bool
-states_common name parameter = str_eq_ignore_ascii_case name (common_name parameter)
+abbrev pub is_called_common : List ℕ → CommonParameter → Bool
+is_called_common name parameter = str_eq_ignore_ascii_case name (common_name parameter)
 
 -- the common parameter of this name
 abbrev pub common_named : List ℕ → Option CommonParameter
-common_named name = find (states_common name) common_parameters
+common_named name = find (is_called_common name) common_parameters

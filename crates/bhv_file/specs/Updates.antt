@@ -15,25 +15,25 @@ use Rattle.bhv_file.specs.Values.{kept_if}
 abbrev pub is_consistent : Shape → Bool
 is_consistent shape = keeps_relations shape && not (lacks_places shape)
 
--- they are good over a domain: the relations hold, and the boxes of a function that keeps clear of a contact are few
+-- parameters are good over a domain: the relations hold, and the boxes of a function that keeps clear of a contact are few
 abbrev pub is_good_over : List Axis → Shape → Bool
 is_good_over axes shape = is_consistent shape && has_few_boxes axes shape
 
--- the parts of an update: it is cut at each `#`
+-- the parts of an update: it is cut at each `#`, and an empty text is one empty part
 abbrev pub update_parts : List ℕ → List (List ℕ)
 update_parts text = slice_split (λ byte. byte == 35) text
 
--- the behaviour with one part more, if that is a parameter of it, a `=` and a good value
+-- the behaviour with one more part of an update, if that is a parameter of it, a `=` and a good value
 abbrev pub with_update_part : Option Spec → List ℕ → Option Spec
 with_update_part None part = None
 with_update_part (Some spec) part = option_and_then (λ sides. with_param spec sides.name sides.value) (sides_of part)
 
--- The behaviour after an update over a domain that is good as a whole: each part is, one after the other, and then what they
--- left.
+-- The behaviour after an update that is good as a whole over a domain: each part is good on top of those before it, and what they
+-- make is good over the domain.
 abbrev pub updated : List Axis → Spec → List ℕ → Option Spec
 updated axes spec text = kept_if (λ after. is_good_over axes after.shape) (fold with_update_part (Some spec) (update_parts text))
 
--- these sides name the places that a behaviour goes to
+-- a part of an update names the places that a behaviour goes to
 abbrev pub is_of_places : Option Sides → Bool
 is_of_places None = false
 is_of_places (Some sides) = is_called Points sides.name

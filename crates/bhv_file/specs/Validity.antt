@@ -69,8 +69,8 @@ AreDecls earlier (decl ∷ decls) = IsDecl earlier decl × AreDecls (earlier ++ 
 abbrev pub flags_of : Common → List Pair
 flags_of common = common.runflags ++ (common.idleflags ++ (common.activeflags ++ (common.inactiveflags ++ common.endflags)))
 
--- What is named in it has a name's form, and its flags are pairs. It has at most 64 conditions and 32 flags, and lasts at most
--- 1,000,000 seconds or for ever.
+-- What is named in a behaviour has a name's form, and its flags are pairs. It has at most 64 conditions and 32 flags, and lasts
+-- at most 1,000,000 seconds or for ever.
 pub record IsValidCommon (common : Common) : Type 0 where
   pub name : IsTrue (is_name common.name)
   pub updates : IfSome common.updates (λ name. IsTrue (is_name name))
@@ -80,13 +80,13 @@ pub record IsValidCommon (common : Common) : Type 0 where
   pub few_flags : length (flags_of common) ≤ 32
   pub lasts : IfSome common.duration (λ time. time ≤ 10 ^ 9)
 
--- Its parameters are in their ranges, its places are given, and the relations between its parameters hold.
+-- A behaviour's parameters are in their ranges, its places are given, and the relations between its parameters hold.
 pub record IsValidSpec (spec : Spec) : Type 0 where
   pub ranges : KeepsRanges spec
   pub given : lacks_places spec.shape ≡ false
   pub relations : IsTrue (keeps_relations spec.shape)
 
--- one of these behaviours has this name
+-- a name is that of one of these behaviours
 abbrev pub is_taken : List Block → List ℕ → Bool
 is_taken blocks name = list_any (λ block. bytes_eq block.common.name name) blocks
 
@@ -101,7 +101,7 @@ abbrev pub AreBlocks : List Block → List Block → Type 0
 AreBlocks earlier [] = Unit {0}
 AreBlocks earlier (block ∷ blocks) = IsBlock earlier block × AreBlocks (earlier ++ block ∷ []) blocks
 
--- It has at most 256 opening pairs, as many declarations and 64 behaviours, each of which is one behind those before it. The
+-- A file has at most 256 opening pairs, as many declarations and 64 behaviours, each of which is one behind those before it. The
 -- pairs and the unused parameters' names are in the form of pairs and names.
 pub record IsValidFile (file : BhvFile) : Type 0 where
   pub opening : All IsPair file.opening

@@ -69,7 +69,7 @@ spot_of_parts parts = None
 abbrev pub spot_of_text : List ℕ → Option Spot
 spot_of_text text = spot_of_parts (slice_split (λ byte. byte == 44) text)
 
--- all of them, if each is there
+-- all of these, if each is there
 abbrev pub all_of : {A : Type 0} → List (Option A) → Option (List A)
 all_of [] = Some []
 all_of (first ∷ more) = option_and_then (λ x. option_map (λ xs. x ∷ xs) (all_of more)) first
@@ -78,7 +78,7 @@ all_of (first ∷ more) = option_and_then (λ x. option_map (λ xs. x ∷ xs) (a
 abbrev pub without_pts : List ℕ → List ℕ
 without_pts text = if bytes_eq (take 5 text) (codes "pts={") && ends_with 125 text then without_last 125 (drop 5 text) else text
 
--- the text without its blanks
+-- the text without its blanks, those within a number too: `1 2` becomes `12`
 abbrev pub without_blanks : List ℕ → List ℕ
 without_blanks text = filter (λ byte. not (is_blank byte)) text
 
@@ -86,7 +86,8 @@ without_blanks text = filter (λ byte. not (is_blank byte)) text
 abbrev pub spots_between : List ℕ → Option (List Spot)
 spots_between text = all_of (map spot_of_text (slice_split (λ byte. byte == 58) text))
 
--- a list of 1 to 64 places
+-- A list of 1 to 64 places with `:` between, whose blanks count for nothing. There is always one, since even an empty text is cut
+-- into one part.
 abbrev pub spots_of : List ℕ → Option (List Spot)
 spots_of text = kept_if (λ spots. nat_le (length spots) 64) (spots_between (without_pts (without_blanks text)))
 
@@ -95,7 +96,7 @@ abbrev pub only_spot : List Spot → Option Spot
 only_spot (spot ∷ []) = Some spot
 only_spot spots = None
 
--- one place
+-- the one place that a text says; none if it says several
 abbrev pub spot_of : List ℕ → Option Spot
 spot_of text = option_and_then only_spot (spots_of text)
 
@@ -107,7 +108,7 @@ polygon_of text = kept_if convex (spots_of text)
 abbrev pub is_contact : List ℕ → Bool
 is_contact name = nat_le (length name) 32 && is_name name
 
--- such a name as a value
+-- a contact's name as a value
 abbrev pub contact_of : List ℕ → Option (List ℕ)
 contact_of text = if is_contact text then Some text else None
 
@@ -115,7 +116,7 @@ contact_of text = if is_contact text then Some text else None
 abbrev pub is_piece_size : ℕ → Bool
 is_piece_size number = nat_le 1 number && nat_le number 268435456
 
--- so many places, by a whole number
+-- how many places a piece has on an axis, as a whole number from 1 to 268,435,456
 abbrev pub piece_size_of : List ℕ → Option ℕ
 piece_size_of text = kept_if is_piece_size (whole_of text)
 

@@ -1,7 +1,7 @@
 // The table of the parameters of behaviours: by which names a file sets each, which values it may have, and which
 // types have it. `put` says in which field it is, and `types` what it is if it isn't given.
 ghost use Rattle.std.specs.Prelude.{◌≡◌, find};
-ghost use Rattle.bhv_file.specs.Table.{common_named, is_called, is_needed, parameter_of, value_range, states_common};
+ghost use Rattle.bhv_file.specs.Table.{common_named, is_called, is_needed, parameter_of, value_range, is_called_common};
 
 use crate::spec::Shape;
 use moos_text::is_named;
@@ -223,7 +223,7 @@ const COMMON: [CommonParameter; 13] = [
 ];
 
 pub fn is_common_name(parameter: CommonParameter, name: &[u8]) -> bool
-    ensures { result ≡ states_common name.now parameter }
+    ensures { result ≡ is_called_common name.now parameter }
 {
     match parameter {
         CommonParameter::Name => is_named(name, b"name"),

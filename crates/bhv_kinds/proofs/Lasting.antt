@@ -9,7 +9,7 @@ use Rattle.bhv_file.specs.declared.table.Parameter.{Parameter}
 use Rattle.bhv_file.specs.declared.table.CommonParameter.TheVariants.{Weight}
 use Rattle.bhv_file.specs.Params.{axes_of, with_param, with_value_of}
 use Rattle.bhv_file.specs.Ranges.{InRanges, KeepsRanges}
-use Rattle.bhv_file.specs.Table.{parameter_of, states_common}
+use Rattle.bhv_file.specs.Table.{is_called_common, parameter_of}
 use Rattle.bhv_file.specs.Validity.{IsValidSpec}
 use Rattle.bhv_file.specs.Values.{weight_of}
 use Rattle.bhv_file.proofs.Ranged.{own_kept, weight_within}
@@ -19,7 +19,7 @@ use Rattle.bhv_file.proofs.Pairwise.{good_valid, none_after, updated_axes, updat
 
 -- a parameter more keeps the ranges
 param_ranges : (spec : Spec) (name value : List ℕ) → KeepsRanges spec → IfSome (with_param spec name value) KeepsRanges
-param_ranges spec name value is = by (states_common name Weight) (weight_of value) (weight_within value) (parameter_of spec.shape name) (own_kept true spec.shape name value is.parameters)
+param_ranges spec name value is = by (is_called_common name Weight) (weight_of value) (weight_within value) (parameter_of spec.shape name) (own_kept true spec.shape name value is.parameters)
   where
     set : (shape : Option Shape) → IfSome shape (InRanges true) → IfSome (option_map (λ shape. record spec { shape = shape }) shape) KeepsRanges
     set None h = tt

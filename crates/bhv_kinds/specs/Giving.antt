@@ -36,7 +36,7 @@ gives utility = record { utility = utility; done = false; fault = None }
 abbrev pub raises : Option BhvFault → Given
 raises fault = record { utility = None; done = false; fault = fault }
 
--- it is done, and there is nothing to go to
+-- the behaviour is done, and there is nothing to go to
 abbrev pub all_done : Given
 all_done = record { utility = None; done = true; fault = None }
 
@@ -106,7 +106,8 @@ gives_at spec past step = gives_by_type (params_at spec past).shape step.known (
 abbrev pub is_named : List (List ℕ) → List ℕ → Bool
 is_named names name = list_any (bytes_eq name) names
 
--- what is given, with the function over a domain in the utility's place, and the axes that it mentions of these
+-- what is given, with the function over a domain in the utility's place; if there is a function, it mentions those of course,
+-- speed and depth that are among these names
 abbrev pub out_of : List Axis → List (List ℕ) → Given → Out
 out_of axes names given = record {
   func = option_map (function_of axes) given.utility;

@@ -6,7 +6,7 @@ use Rattle.helm_geo.specs.Plane.{distance_squared, isqrt}
 use Rattle.bhv_file.specs.Known.{position_of}
 use Rattle.bhv_kinds.specs.Changes.{KindChange, Updated, Stepped}
 
--- the centre after a step: where it is, unless it is taken anew or wasn't known before
+-- the centre after a step: as it was, or the vehicle's place if it is taken anew or wasn't known
 abbrev pub centre_after : Bool → Option Spot → Option Spot → Option Spot
 centre_after fresh centre here = if fresh then here else option_or centre here
 

@@ -11,17 +11,17 @@ use Rattle.bhv_file.specs.Updates.{gives_places}
 use Rattle.bhv_file.specs.Known.{position_of}
 use Rattle.bhv_kinds.specs.Changes.{KindStep, KindChange, Updated, Stepped, params_at, params_at_step}
 
--- the place of this number in a list
+-- the place of this number in a list; (0, 0) if there is none
 abbrev pub spot_at : List Spot → ℕ → Spot
 spot_at places number = unwrap_or (slice_get places number) (record { x = pos 0; y = pos 0 })
 
--- where the last step found the vehicle, unless the places were given anew since
+-- where the last step found the vehicle, however long ago that was, unless the places were given anew since
 abbrev pub last_position : Spec → List KindChange → Option Spot
 last_position spec [] = None
 last_position spec (Updated axes text ∷ past) = if gives_places axes (params_at spec past) text then None else last_position spec past
 last_position spec (Stepped step ∷ past) = position_of step.known
 
--- the vehicle was within the slip radius and is farther away now
+-- the vehicle was within the slip radius at the step before, however long ago that was, and is farther away now
 abbrev pub has_slipped : ℕ → Spot → Option Spot → Spot → Bool
 has_slipped slip target None now = false
 has_slipped slip target (Some before) now = within before target slip && nat_lt (distance_squared before target) (distance_squared now target)
@@ -39,7 +39,7 @@ abbrev pub is_reversed : Shape → Bool
 is_reversed (Waypoint points speed capture slip reverse repeat) = reverse
 is_reversed other = false
 
--- the number in a list of so many points of the one that comes after so many others, in this order
+-- the number of the target in a list of `count` points, once `captured` of them are captured, in their order or in reverse
 abbrev pub target_number : ℕ → Bool → ℕ → ℕ
 target_number count reverse captured = if reverse then count - 1 - captured else captured
 
@@ -57,7 +57,7 @@ abbrev pub is_last : Shape → Headway → Bool
 is_last (Waypoint points speed capture slip reverse repeat) headway = is_last_of points repeat headway
 is_last other headway = false
 
--- with one more point captured: after the last the list begins again, and when all is done so do the repeats
+-- how far a behaviour has come with one more point captured: after the last the list begins again, and when all is done so do the repeats
 abbrev pub with_captured : List Spot → Option ℕ → Headway → Headway
 with_captured points repeat headway =
     if is_last_of points repeat headway then first_headway
@@ -66,12 +66,12 @@ with_captured points repeat headway =
 
 -- a waypoint behaviour that has come so far captures its target at a place
 abbrev pub captures_at : Shape → Bool → ℕ → Option Spot → Option Spot → Bool
-captures_at (Waypoint points speed capture slip reverse repeat) reversed captured before (Some now) =
+captures_at (Waypoint points speed capture slip reverse repeat) was_reversed captured before (Some now) =
     let target = target_number (length points) reverse captured in
-    is_captured (nat_abs capture) (nat_abs slip) (spot_at points target) (target == target_number (length points) reversed captured) before now
-captures_at other reversed captured before now = false
+    is_captured (nat_abs capture) (nat_abs slip) (spot_at points target) (target == target_number (length points) was_reversed captured) before now
+captures_at other was_reversed captured before now = false
 
--- what a capture makes of it
+-- how far a behaviour has come after a step that captured its target or not
 abbrev pub headway_after : Shape → Bool → Headway → Headway
 headway_after (Waypoint points speed capture slip reverse repeat) true headway = with_captured points repeat headway
 headway_after other captured headway = headway
@@ -88,7 +88,7 @@ headway_at spec (Updated axes text ∷ past) =
     if gives_places axes (params_at spec past) text then record { captured = 0; again = (headway_at spec past).again } else headway_at spec past
 headway_at spec (Stepped step ∷ past) = headway_after (params_at spec past).shape (captures spec past (headway_at spec past) step) (headway_at spec past)
 
--- of two vertices the first, unless the second is nearer
+-- the one of two vertices that is nearer, and the first if both are as near
 abbrev pub nearer_vertex : List Spot → Spot → ℕ → ℕ → ℕ
 nearer_vertex polygon here best other =
     if nat_lt (distance_squared (spot_at polygon other) here) (distance_squared (spot_at polygon best) here) then other else best
@@ -108,7 +108,7 @@ next_vertex polygon clockwise vertex =
     if (if clockwise then is_clockwise polygon else not (is_clockwise polygon)) then (if nat_lt (suc vertex) (length polygon) then suc vertex else 0)
     else (if vertex == 0 then length polygon - 1 else vertex - 1)
 
--- it is this number
+-- there is a number, and it is this one
 abbrev pub is_number : ℕ → Option ℕ → Bool
 is_number number None = false
 is_number number (Some other) = number == other

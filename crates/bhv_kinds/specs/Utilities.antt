@@ -23,7 +23,7 @@ pub data Utility : Type 0 where
   Sum : Utility → Utility → Utility
   Clear : Avoidance → Spot → Track → Utility
 
--- the utility at a point
+-- what a utility is worth at a point; keeping clear of a contact is worth what its sampled pieces say
 abbrev pub worth_at : List Axis → Utility → Point → ℕ
 worth_at axes (Flat value) point = value
 worth_at axes (PeakOn name peak) point = peak_at (named_axis axes name) peak (place_on axes name point)
@@ -31,7 +31,7 @@ worth_at axes (AtMostOn name limit basewidth max) point = at_most_at (named_axis
 worth_at axes (Sum one other) point = worth_at axes one point + worth_at axes other point
 worth_at axes (Clear avoidance here track) point = sampled_clearance axes avoidance here track point
 
--- the pieces
+-- the pieces of a utility over these axes
 abbrev pub utility_pieces : List Axis → Utility → List Piece
 utility_pieces axes (Flat value) = flat_pieces axes (pos value)
 utility_pieces axes (PeakOn name peak) = peak_pieces axes (axis_number axes name) peak
@@ -39,7 +39,7 @@ utility_pieces axes (AtMostOn name limit basewidth max) = at_most_pieces axes (a
 utility_pieces axes (Sum one other) = couple_pieces (utility_pieces axes one) (utility_pieces axes other)
 utility_pieces axes (Clear avoidance here track) = clearance_pieces axes avoidance here track
 
--- the function over these axes
+-- the function of a utility over these axes
 abbrev pub function_of : List Axis → Utility → Function
 function_of axes utility = record { axes = axes; pieces = utility_pieces axes utility }
 
@@ -48,7 +48,7 @@ abbrev pub peak_of : List ℕ → ℤ → ℤ → ℤ → ℤ → ℕ → Utilit
 peak_of name summit peakwidth basewidth summitdelta max =
     PeakOn name (record { summit = summit; peakwidth = peakwidth; basewidth = basewidth; summitdelta = summitdelta; max = pos max })
 
--- to steer a course of so many degrees
+-- to steer a course of `degree` degrees
 abbrev pub steer : ℕ → Utility
 steer degree = peak_of (codes "course") (pos (degree * 1000)) (pos 20000) (pos 160000) (pos 12500) 50000
 

@@ -34,7 +34,7 @@ pub record BhvPast : Type 0 where
   pub stepped : Bool
   pub outcome : Outcome
 
--- it completed in one of these turns
+-- the behaviour completed in one of these turns
 abbrev pub has_completed : List BhvPast → Bool
 has_completed past = list_any (λ one. one.outcome.ended) past
 
@@ -42,19 +42,19 @@ has_completed past = list_any (λ one. one.outcome.ended) past
 abbrev pub can_run : Common → List BhvPast → Bool
 can_run common past = common.perpetual || not (has_completed past)
 
--- it runs if the helm isn't parked, its conditions hold and it can run again
+-- the behaviour runs if the helm isn't parked, its conditions hold and it can run again
 abbrev pub runs_at : Common → List BhvPast → Beginning → Bool
 runs_at common past start = not start.parked && start.held && can_run common past
 
--- it was stepped in the last of these turns
+-- the behaviour was stepped in the last of these turns
 abbrev pub was_stepped : List BhvPast → Bool
 was_stepped past = unwrap_or (last_or None (map (λ one. one.stepped) past)) false
 
--- it wasn't stepped in the iteration before
+-- the behaviour wasn't stepped in the iteration before
 abbrev pub is_fresh : List BhvPast → Bool
 is_fresh past = not (was_stepped past)
 
--- the turns after its last completion
+-- the turns after the behaviour's last completion, all if it never completed
 abbrev pub since_completion : List BhvPast → List BhvPast
 since_completion past = after_last (λ one. one.outcome.ended) past
 
@@ -71,12 +71,12 @@ first_run turns = option_map (λ one. one.stamp) (find (λ one. one.ran) turns)
 abbrev pub time_since_run : List BhvPast → ℕ → ℕ
 time_since_run turns stamp = stamp - unwrap_or (first_run turns) stamp
 
--- the time from each of these turns that ran to the next turn, of which the last is at this stamp
+-- the sum of the times from each of these turns that ran to the turn behind it; behind the last of them is a turn at this stamp
 abbrev pub time_run : List BhvPast → ℕ → ℕ
 time_run [] stamp = 0
 time_run (one ∷ later) stamp = (if one.ran then first_stamp later stamp - one.stamp else 0) + time_run later stamp
 
--- The time that counts against its duration, over the turns after its last completion.
+-- The time that counts against the behaviour's duration, over the turns after its last completion.
 abbrev pub passed_at : Common → List BhvPast → ℕ → ℕ
 passed_at common past stamp = if common.idle_decay then time_since_run (since_completion past) stamp else time_run (since_completion past) stamp
 
@@ -85,11 +85,11 @@ abbrev pub is_in_time : Option ℕ → ℕ → Bool
 is_in_time None time = true
 is_in_time (Some duration) time = nat_lt time duration
 
--- it runs, and its duration isn't over
+-- the behaviour runs, and its duration isn't over
 abbrev pub is_stepped : Common → List BhvPast → Beginning → Bool
 is_stepped common past start = runs_at common past start && is_in_time common.duration (passed_at common past start.stamp)
 
--- it completes if it runs and its duration is over, or its step is done
+-- the behaviour completes if it runs and its duration is over, or its step is done
 abbrev pub completes_at : Common → List BhvPast → BhvTurn → Bool
 completes_at common past turn = runs_at common past turn.start && (turn.done || not (is_stepped common past turn.start))
 
@@ -113,7 +113,7 @@ turn_after common past turn = record {
   outcome = outcome_of (state_after past) (state_at common past turn) (completes_at common past turn);
 }
 
--- the turns so far and one more
+-- what the turns so far and one more came to
 abbrev pub with_turn : Common → List BhvPast → BhvTurn → List BhvPast
 with_turn common past turn = past ++ turn_after common past turn ∷ []
 
@@ -121,7 +121,7 @@ with_turn common past turn = past ++ turn_after common past turn ∷ []
 abbrev pub past_of : Common → List BhvTurn → List BhvPast
 past_of common turns = fold (with_turn common) [] turns
 
--- what it does in a turn before its step
+-- what the behaviour does in a turn before its step
 abbrev pub phase_at : Common → List BhvPast → Beginning → Phase
 phase_at common past start =
     if is_stepped common past start then Run (is_fresh past)

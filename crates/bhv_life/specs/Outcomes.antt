@@ -6,39 +6,39 @@ use Rattle.bhv_life.specs.declared.outcome.BhvState.{BhvState}
 use Rattle.bhv_life.specs.declared.outcome.BhvState.TheVariants.{Idle, Running, Active, Completed}
 use Rattle.bhv_life.specs.declared.outcome.Outcome.{Outcome}
 
--- idle
+-- the state is idle
 abbrev pub is_idle : BhvState → Bool
 is_idle Idle = true
 is_idle Running = false
 is_idle Active = false
 is_idle Completed = false
 
--- active
+-- the state is active
 abbrev pub is_active : BhvState → Bool
 is_active Idle = false
 is_active Running = false
 is_active Active = true
 is_active Completed = false
 
--- running or active
-abbrev pub is_running : BhvState → Bool
-is_running Idle = false
-is_running Running = true
-is_running Active = true
-is_running Completed = false
+-- the behaviour is under way: running or active
+abbrev pub is_under_way : BhvState → Bool
+is_under_way Idle = false
+is_under_way Running = true
+is_under_way Active = true
+is_under_way Completed = false
 
 -- what an iteration brings, by the states before and now, and whether the behaviour completes in it
 abbrev pub outcome_of : BhvState → BhvState → Bool → Outcome
 outcome_of before now ended = record {
   now = now;
-  run = is_running now && not (is_running before);
+  run = is_under_way now && not (is_under_way before);
   idle = is_idle now && not (is_idle before);
   active = is_active now && not (is_active before);
   inactive = is_active before && not (is_active now);
   ended = ended;
 }
 
--- these flags, or none
+-- the flags that are raised: all of these, or none
 abbrev pub raised : Bool → List Pair → List Pair
 raised true flags = flags
 raised false flags = []

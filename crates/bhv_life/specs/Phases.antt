@@ -12,21 +12,21 @@ steps_in (Run fresh) = true
 steps_in TimedOut = false
 steps_in Completed = false
 
--- it runs
+-- the behaviour runs
 abbrev pub runs_in : Phase → Bool
 runs_in Idle = false
 runs_in (Run fresh) = true
 runs_in TimedOut = true
 runs_in Completed = false
 
--- whether it completes, by whether its step is done
+-- whether the behaviour completes, by whether its step is done
 abbrev pub completes_in : Phase → Bool → Bool
 completes_in Idle done = false
 completes_in (Run fresh) done = done
 completes_in TimedOut done = true
 completes_in Completed done = false
 
--- its state after the turn, by whether it gave a function that counts and whether its step is done
+-- the state of the behaviour after the turn, by whether it gave a function that counts and whether its step is done
 abbrev pub state_in : Phase → Bool → Bool → BhvState
 state_in Idle gave done = IdleState
 state_in (Run fresh) gave done = if done then CompletedState else if gave then Active else Running

@@ -2,7 +2,7 @@
 ghost use Rattle.std.specs.Prelude.{◌≡◌, true, false, ◌+◌, ◌≤◌, List, [], ◌++◌, ◌∷◌, if◌then◌else◌, Some, None};
 ghost use Rattle.bhv_file.specs.declared.common.Common.{Common};
 ghost use Rattle.bhv_life.specs.Lives.{Beginning, BhvPast, BhvTurn, latest_stamp, past_of, turn_after};
-ghost use Rattle.bhv_life.specs.Outcomes.{is_active, is_idle, is_running, outcome_of};
+ghost use Rattle.bhv_life.specs.Outcomes.{is_active, is_idle, is_under_way, outcome_of};
 ghost use Rattle.bhv_life.specs.Phases.{completes_in, runs_in, state_in, steps_in};
 ghost use Rattle.bhv_life.specs.Standing.{HasBegun, IsLifeOf, Keeps};
 
@@ -29,8 +29,8 @@ fn is_active(state: BhvState) -> bool
     matches!(state, BhvState::Active)
 }
 
-fn is_running(state: BhvState) -> bool
-    ensures { result ≡ is_running state }
+fn is_under_way(state: BhvState) -> bool
+    ensures { result ≡ is_under_way state }
 {
     matches!(state, BhvState::Running | BhvState::Active)
 }
@@ -41,7 +41,7 @@ fn outcome_of(before: BhvState, now: BhvState, ended: bool) -> Outcome
 {
     Outcome {
         now,
-        run: is_running(now) && !is_running(before),
+        run: is_under_way(now) && !is_under_way(before),
         idle: is_idle(now) && !is_idle(before),
         active: is_active(now) && !is_active(before),
         inactive: is_active(before) && !is_active(now),

@@ -24,7 +24,7 @@ use Rattle.bhv_file.specs.declared.table.Parameter.{Parameter}
 use Rattle.bhv_file.specs.declared.table.Parameter.TheVariants.{Heading as OfHeading, Speed as OfSpeed, Depth as OfDepth, PeakWidth, BaseWidth, SummitDelta, MaxDepth as OfMaxDepth, Points, CaptureRadius, SlipRadius, Order, Repeat, Polygon, Clockwise, StationPoint, CenterActivate, InnerRadius, OuterRadius, OuterSpeed, MaxTime, Contact, ContactX, ContactY, ContactSpeed, ContactHeading, NearDistance, FarDistance, Resolved, PieceSize}
 use Rattle.bhv_reader.specs.Blocks.{after_known, BehaviorBlock, with_common, with_found, with_parameter, with_sides}
 use Rattle.bhv_reader.specs.Places.{behavior_block}
-use Rattle.bhv_file.specs.Table.{common_name, common_named, common_parameters, is_called, parameter_names, parameter_of, parameters_of, states_common}
+use Rattle.bhv_file.specs.Table.{common_name, common_named, common_parameters, is_called, is_called_common, parameter_names, parameter_of, parameters_of}
 
 -- what a byte passes, its letter in lower case passes and the other way round, where letters of both cases pass
 folded_byte : (test : ℕ → Bool) → ((byte : ℕ) → is_alphabetic byte ≡ true → test byte ≡ true) → (byte : ℕ) → test (to_ascii_lowercase byte) ≡ test byte
@@ -165,7 +165,7 @@ own_line block line sides parameter found =
 -- a line that gives a common parameter
 pub common_line : (block : BehaviorBlock) (line : ℕ) (sides : Sides) (parameter : CommonParameter) → Some parameter ≡ common_named sides.name → with_sides block line (Some sides) ≡ and_then (λ behavior. Ok (record block { behavior = behavior })) (with_common block.file.blocks block.behavior sides.value parameter)
 common_line block line sides parameter found =
-    let called = found_passes (states_common sides.name) common_parameters parameter found in
+    let called = found_passes (is_called_common sides.name) common_parameters parameter found in
     let name : is_name sides.name ≡ true = same_name sides.name (common_name parameter) called ∙ common_names parameter in
     let own = parameter_of block.behavior.spec.shape sides.name in
     ap (λ b. cond b (after_known block line sides.name (with_found block.file.blocks block.behavior sides.value (common_named sides.name) own)) (Err B1)) name

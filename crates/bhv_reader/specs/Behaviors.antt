@@ -32,7 +32,7 @@ pub record ModeBlock : Type 0 where
   pub parent : Option ℕ
   pub conds : List Condition
 
--- one opening pair more, of at most 256
+-- the file with one more opening pair, of at most 256
 abbrev pub with_opening : BhvFile → Result Pair PairFault → Result BhvFile Cause
 with_opening file (Err fault) = Err B1
 with_opening file (Ok pair) = if nat_le 256 (length file.opening) then Err B9 else Ok (record file { opening = file.opening ++ pair ∷ [] })
@@ -92,7 +92,7 @@ abbrev pub after_condition : ModeBlock → Option Value → Result ModeBlock Cau
 after_condition block None = Ok block
 after_condition block (Some literal) = and_then (with_parent block) (the_one (meant_by block.file.decls literal))
 
--- one condition more, of at most 64
+-- a mode's block with one more condition, of at most 64
 abbrev pub with_condition : ModeBlock → Option Condition → Result ModeBlock Cause
 with_condition block None = Err B5
 with_condition block (Some cond) =
@@ -105,7 +105,7 @@ abbrev pub other_of : List ℕ → Result (Option (List ℕ)) Cause
 other_of [] = Ok None
 other_of (byte ∷ bytes) = if is_name (byte ∷ bytes) then Ok (Some (byte ∷ bytes)) else Err B1
 
--- one declaration more, of at most 256
+-- the file with one more declaration, of at most 256
 abbrev pub with_decl : ModeBlock → Option (List ℕ) → Result BhvFile Cause
 with_decl block other =
     if nat_le 256 (length block.file.decls) then Err B9
@@ -121,7 +121,7 @@ abbrev pub behind_close : List ℕ → List ℕ
 behind_close [] = []
 behind_close (byte ∷ bytes) = trimmed bytes
 
--- a block with one line more
+-- a block with one more line
 abbrev pub with_block_line : OpenBlock → Statement → Result OpenBlock Cause
 with_block_line (OfMode block) said = and_then (λ more. Ok (OfMode more)) (with_condition block (condition_of said.text))
 with_block_line (OfBehavior block) said = and_then (λ more. Ok (OfBehavior more)) (with_sides block said.line (sides_of said.text))

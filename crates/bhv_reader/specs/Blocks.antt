@@ -60,7 +60,7 @@ name_value value = if is_name value then Ok value else Err B6
 abbrev pub with_behavior_name : List Block → UnclosedBehavior → List ℕ → Result UnclosedBehavior Cause
 with_behavior_name blocks behavior name = if is_taken blocks name then Err B4 else Ok (record behavior { name = Some name })
 
--- a behaviour with one condition more, of at most 64
+-- a behaviour with one more condition, of at most 64
 abbrev pub with_behavior_condition : UnclosedBehavior → Condition → Result UnclosedBehavior Cause
 with_behavior_condition behavior cond = if nat_le 64 (length behavior.conds) then Err B9 else Ok (record behavior { conds = behavior.conds ++ cond ∷ [] })
 
@@ -73,11 +73,11 @@ abbrev pub flag_value : Result Pair PairFault → Result Pair Cause
 flag_value (Ok pair) = Ok pair
 flag_value (Err fault) = Err B6
 
--- room for one flag more, of at most 32 of all kinds
+-- a flag, if the behaviour has room for one more: it has at most 32 of all kinds
 abbrev pub flag_with_room : UnclosedBehavior → Pair → Result Pair Cause
 flag_with_room behavior pair = if nat_le 32 (flags_in behavior) then Err B9 else Ok pair
 
--- one flag more
+-- one more flag, if the value says a pair and the behaviour has room for it
 abbrev pub one_flag : UnclosedBehavior → List ℕ → Result Pair Cause
 one_flag behavior value = and_then (flag_with_room behavior) (flag_value (pair_of value))
 
@@ -113,12 +113,12 @@ with_found blocks behavior value (Some common) own = Some (with_common blocks be
 with_found blocks behavior value None (Some own) = Some (with_parameter behavior value own)
 with_found blocks behavior value None None = None
 
--- a behaviour with one line more in its block: a parameter, or one that is unused
+-- a behaviour's block with one more line: a parameter, or one that is unused
 abbrev pub after_known : BehaviorBlock → ℕ → List ℕ → Option (Result UnclosedBehavior Cause) → Result BehaviorBlock Cause
 after_known block line name (Some known) = and_then (λ behavior. Ok (record block { behavior = behavior })) known
 after_known block line name None = Ok (record block { file = record block.file { unused = block.file.unused ++ record { line = line; name = name } ∷ [] } })
 
--- a behaviour with one line more in its block: `param = value`
+-- a behaviour's block with one more line: `param = value`
 abbrev pub with_sides : BehaviorBlock → ℕ → Option Sides → Result BehaviorBlock Cause
 with_sides block line None = Err B1
 with_sides block line (Some sides) =
@@ -126,7 +126,7 @@ with_sides block line (Some sides) =
     then after_known block line sides.name (with_found block.file.blocks block.behavior sides.value (common_named sides.name) (parameter_of block.behavior.spec.shape sides.name))
     else Err B1
 
--- it is a template, and there is no variable whose letters it hears
+-- the behaviour is a template, and there is no variable whose letters it hears
 abbrev pub is_unheard : UnclosedBehavior → Bool
 is_unheard behavior = behavior.template && is_none behavior.updates
 
@@ -162,7 +162,7 @@ block_of behavior name = record {
   spec = behavior.spec;
 }
 
--- one behaviour more, of at most 64
+-- the file with one more behaviour, of at most 64
 abbrev pub with_block : BehaviorBlock → Option (List ℕ) → Result BhvFile Cause
 with_block block None = Err B11
 with_block block (Some name) =

@@ -123,7 +123,7 @@ module _ {T : Type 0} (outcomes : Outcomes T) where
   -- a job that puts a text which it may write to end with this status, or fails at that
   pub put_ends : {E : Type 0} (turn : FileTurn T) (task : T) (text : List ℕ) (meant status : Status) (sink : Sinking) (put : Result (Unit {0}) E)
       → (WroteAll outcomes turn meant sink → Ended outcomes turn sink meant) → turn ≡ Ready task → outcomes.MayWrite task meant text → OnOk put (Took sink.taken_before sink.taken_after text)
-      → OnErr put (TookFront sink.taken_before sink.taken_after text) → OnErr put (Fell sink.faults_before sink.faults_after sink.taken_after)
+      → OnErr put (TookFront sink.taken_before sink.taken_after text) → OnErr put (Fell sink.fared_before sink.fared_after sink.taken_after)
       → OnOk put (status ≡ meant) → OnErr put (status ≡ WriteFault) → Ended outcomes turn sink status
   put_ends turn task text meant status sink (Ok put) ends good output took front rose all fault =
       rw all (ends (record { task = task; good = good; text = text; output = output; took = took }))

@@ -82,7 +82,8 @@ is_set id found = option_map_or (λ value. bytes_eq value (codes "true")) (first
 abbrev pub bounded : ℕ → ℕ → ℕ → ℕ
 bounded low high number = if nat_le low number && nat_le number high then number else low
 
--- the number that a value spells, if it is within the bounds, as each value is that a command finds for such an argument
+-- the number that a value spells, if it is within the bounds, and else the lower one; a command finds only values within them for
+-- such an argument
 abbrev pub bounded_of : ℕ → ℕ → Text → ℕ
 bounded_of low high value = if is_unsigned_in low high value then digits_value 10 (without_leading_plus value) else low
 

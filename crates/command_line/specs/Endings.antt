@@ -20,26 +20,26 @@ status_of kind Unread = NoMemory
 pub record Sinking : Type 0 where
   pub taken_before : Option (List ℕ)
   pub taken_after : Option (List ℕ)
-  pub faults_before : Faring
-  pub faults_after : Faring
+  pub fared_before : Faring
+  pub fared_after : Faring
 
 -- the sink with these parts, in their order
 abbrev pub sinking : Option (List ℕ) → Option (List ℕ) → Faring → Faring → Sinking
-sinking taken_before taken_after faults_before faults_after =
-    record { taken_before = taken_before; taken_after = taken_after; faults_before = faults_before; faults_after = faults_after }
+sinking taken_before taken_after fared_before fared_after =
+    record { taken_before = taken_before; taken_after = taken_after; fared_before = fared_before; fared_after = fared_after }
 
 -- nothing was written, and no writing failed
 pub record IsUntouched (sink : Sinking) : Type 0 where
   pub taken : sink.taken_after ≡ sink.taken_before
-  pub faults : sink.faults_after ≡ sink.faults_before
+  pub faults : sink.fared_after ≡ sink.fared_before
 
--- What tasks of one type may come to: a task may write this text and end with this status; and it is written as it comes, if
--- every other task writes when all of its text is there.
+-- What tasks of one type may come to: which text a task may write with which status, and which tasks' texts are written as they
+-- come. The text of any other task is written once all of it is there.
 pub record Outcomes (T : Type 0) : Type 1 where
   pub MayWrite : T → Status → List ℕ → Type 0
   pub IsWrittenAsItComes : T → Type 0
 
--- the sink took all of a text that the job may write and end with this status, of what its files hold
+-- the sink took all of a text that the job may write with this status, by what its files hold
 pub record WroteAll {T : Type 0} (outcomes : Outcomes T) (turn : FileTurn T) (status : Status) (sink : Sinking) : Type 0 where
   pub task : T
   pub good : turn ≡ Ready task
@@ -47,7 +47,7 @@ pub record WroteAll {T : Type 0} (outcomes : Outcomes T) (turn : FileTurn T) (st
   pub output : outcomes.MayWrite task status text
   pub took : Took sink.taken_before sink.taken_after text
 
--- the sink took a front of what the job else writes, not the whole
+-- the sink took a front of a text that the job may write with some status, and not the whole of it
 pub record WroteFront {T : Type 0} (outcomes : Outcomes T) (turn : FileTurn T) (sink : Sinking) : Type 0 where
   pub task : T
   pub good : turn ≡ Ready task
@@ -63,7 +63,7 @@ Ended outcomes turn sink Done = WroteAll outcomes turn Done sink
 Ended outcomes turn sink CheckNo = WroteAll outcomes turn CheckNo sink
 Ended outcomes turn sink Usage = ⊥
 Ended outcomes turn sink LoadFault = ⊥
-Ended outcomes turn sink WriteFault = WroteFront outcomes turn sink × Fell sink.faults_before sink.faults_after sink.taken_after
+Ended outcomes turn sink WriteFault = WroteFront outcomes turn sink × Fell sink.fared_before sink.fared_after sink.taken_after
 Ended outcomes turn sink (Refused refusal) = (turn ≡ Unfit refusal.file (At refusal.line refusal.cause)) × IsUntouched sink
 Ended outcomes turn sink NoMemory = IsUntouched sink ⊎ ((wrote : WroteFront outcomes turn sink) × outcomes.IsWrittenAsItComes wrote.task)
 
@@ -81,14 +81,14 @@ abbrev pub surroundings : Option (List ℕ → Option (List ℕ)) → List (List
 surroundings told sure load_faults_before load_faults_after sink =
     record { told = told; sure = sure; load_faults_before = load_faults_before; load_faults_after = load_faults_after; sink = sink }
 
--- the job, which has loaded the first files, loads more of them and ends so
+-- a job that has loaded the files `front` loads `files` behind them, and ends with this status
 pub record DidFrom {T : Type 0} (outcomes : Outcomes T) (run : Surroundings) (turn : List (List ℕ) → FileTurn T) (front : List (List ℕ)) (status : Status) : Type 0 where
   pub files : List (List ℕ)
   pub loaded : AreLoaded run.told turn front files
   pub ended : Ended outcomes (turn (front ++ files)) run.sink status
 
--- the job, which has loaded the first files, loads more of them up to one whose loading fails: the folder failed, and it isn't sure
--- of this file; nothing was written
+-- a job that has loaded the files `front` loads `files` behind them, up to one whose loading fails: the folder failed, and isn't
+-- sure of this file; nothing was written
 pub record FailsFrom {T : Type 0} (run : Surroundings) (turn : List (List ℕ) → FileTurn T) (front : List (List ℕ)) : Type 0 where
   pub rose : Rose run.load_faults_before run.load_faults_after
   pub files : List (List ℕ)
@@ -99,8 +99,7 @@ pub record FailsFrom {T : Type 0} (run : Surroundings) (turn : List (List ℕ) �
   pub unsure : is_among run.sure name ≡ false
   pub silent : IsUntouched run.sink
 
--- how a job whose files have come so far, by the bytes of those that it has loaded, goes on and ends: it fails at loading a
--- file, or ends with those that it has
+-- how a job ends that has loaded the files `front`: the loading of a further one fails, or it ends with those that it has then
 abbrev pub EndsFrom : {T : Type 0} → Outcomes T → Surroundings → (List (List ℕ) → FileTurn T) → List (List ℕ) → Status → Type 0
 EndsFrom outcomes run turn front LoadFault = FailsFrom run turn front
 EndsFrom outcomes run turn front status = DidFrom outcomes run turn front status

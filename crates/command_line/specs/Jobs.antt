@@ -15,32 +15,33 @@ order_in found = if is_set (codes "race") found then Race else Stamp
 abbrev pub other_file_in : Text → List Row → Option (Option (List ℕ))
 other_file_in id found = if is_none (first_of id found) then Some None else option_map (λ name. Some name) (file_in id found)
 
--- the job of what `play` found; a name that no text can hold names no file
+-- the job of what `play` found: a script, and a mission or none; no job if no text can hold the name of such a file
 abbrev pub play_of : List Row → Option Job
 play_of found =
     option_and_then (λ script. option_map (λ mission. Play script mission (order_in found) (workers_in found)) (other_file_in (codes "mission") found))
     (file_in (codes "script") found)
 
--- the job of what `solve` found, likewise
+-- the job of what `solve` found: a problem; no job if no text can hold its file's name
 abbrev pub solve_of : List Row → Option Job
 solve_of found = option_map (λ problem. Solve problem (workers_in found)) (file_in (codes "problem") found)
 
--- the job of what `check` found, likewise
+-- the job of what `check` found: a decision; no job if no text can hold its file's name
 abbrev pub check_of : List Row → Option Job
 check_of found = option_map Check (file_in (codes "decision") found)
 
--- the job of what `generate` found
+-- the job of what `generate` found: the number of a mission
 abbrev pub generate_of : List Row → Job
 generate_of found = Generate (number_in found)
 
--- the job of what `share` found, likewise
+-- the job of what `share` found: two scripts and a bridge, from the last line up; no job if no text can hold the name of such a file
 abbrev pub share_of : List Row → Option Job
 share_of found =
     option_and_then (λ first. option_and_then (λ second. option_map (λ bridge. Share first second bridge (order_in found)) (file_in (codes "bridge") found))
     (file_in (codes "second") found))
     (file_in (codes "first") found)
 
--- the job of what `simulate` found, likewise
+-- the job of what `simulate` found: a script, a mission, a vehicle, and contacts or none, from the last line up; no job if no
+-- text can hold the name of such a file
 abbrev pub simulate_of : List Row → Option Job
 simulate_of found =
     option_and_then (λ script. option_and_then (λ mission. option_and_then (λ vehicle. option_map (λ contacts. Simulate script mission vehicle contacts (workers_in found)) (other_file_in (codes "contacts") found))

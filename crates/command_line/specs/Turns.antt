@@ -19,19 +19,19 @@ turn_behind kind next (Err fault) = Unfit kind fault
 abbrev pub HasBytes : Option (List ℕ → Option (List ℕ)) → List ℕ → List ℕ → Type 0
 HasBytes told name bytes = IfSome told (λ files. files name ≡ Some bytes)
 
--- these are the bytes of the file that is wanted
+-- a job at this place wants a file, and these are its bytes, if the folder tells them
 abbrev pub WasWanted : {T : Type 0} → Option (List ℕ → Option (List ℕ)) → FileTurn T → List ℕ → Type 0
 WasWanted told (Wanted kind name) bytes = HasBytes told name bytes
 WasWanted told (Ready task) bytes = ⊥
 WasWanted told (Unfit kind fault) bytes = ⊥
 
--- a job whose place goes by the bytes of its files has loaded the first ones, and loads the second ones behind them, each if
--- it is wanted
+-- after the files `front` a job whose place goes by the bytes of its files loads `files`, one after another: each is the one that
+-- it wants then
 abbrev pub AreLoaded : {T : Type 0} → Option (List ℕ → Option (List ℕ)) → (List (List ℕ) → FileTurn T) → List (List ℕ) → List (List ℕ) → Type 0
 AreLoaded told turn front [] = Unit {0}
 AreLoaded told turn front (bytes ∷ files) = WasWanted told (turn front) bytes × AreLoaded told turn (front ++ bytes ∷ []) files
 
--- where a job is whose tasks are among those of several jobs
+-- the same place, with its task as one of a wider type
 abbrev pub turn_as : {T U : Type 0} → (T → U) → FileTurn T → FileTurn U
 turn_as of (Wanted kind name) = Wanted kind name
 turn_as of (Ready task) = Ready (of task)

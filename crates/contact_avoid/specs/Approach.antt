@@ -9,11 +9,11 @@ use Rattle.contact_avoid.specs.declared.approach.Fraction.{Fraction}
 use Rattle.contact_avoid.specs.declared.motion.Track.{Track}
 use Rattle.contact_avoid.specs.declared.vector.Vector.{Vector}
 
--- the dot product of two vectors: above 0 if they point the same way
+-- the dot product of two vectors: above 0 exactly if the angle between them is below 90 degrees
 abbrev pub dot : Vector → Vector → ℤ
 dot r w = r.x *ℤ w.x +ℤ r.y *ℤ w.y
 
--- their cross product: 0 if they lie along one line
+-- the cross product of two vectors: 0 if they lie along one line
 abbrev pub cross : Vector → Vector → ℤ
 cross r w = r.x *ℤ w.y -ℤ r.y *ℤ w.x
 
@@ -21,7 +21,7 @@ cross r w = r.x *ℤ w.y -ℤ r.y *ℤ w.x
 abbrev pub length_squared : Vector → ℕ
 length_squared r = nat_abs r.x * nat_abs r.x + nat_abs r.y * nat_abs r.y
 
--- one vector less another
+-- the difference of two vectors: the first less the second
 abbrev pub minus : Vector → Vector → Vector
 minus a b = record { x = a.x -ℤ b.x; y = a.y -ℤ b.y }
 
@@ -53,7 +53,7 @@ closest r w =
 abbrev pub fraction_at_most : Fraction → ℕ → Bool
 fraction_at_most q n = nat_le q.over (n * q.under)
 
--- it is at least one
+-- a fraction is at least a whole number
 abbrev pub fraction_at_least : Fraction → ℕ → Bool
 fraction_at_least q n = nat_le (n * q.under) q.over
 
@@ -65,11 +65,12 @@ utility_between near far q =
     else if fraction_at_least q (far * far) then 100000
     else 100000 * (q.over - near * near * q.under) / ((far * far - near * near) * q.under)
 
--- a part of the vector is beyond 10,000,000 thousandths
+-- a part of the vector is beyond 10,000,000 thousandths, which are 10 km
 abbrev pub is_far : Vector → Bool
 is_far r = not (nat_le (nat_abs r.x) (10 ^ 7) && nat_le (nat_abs r.y) (10 ^ 7))
 
--- the utility against a contact that is at r and moves by w: a far one is no danger
+-- the utility against a contact that is at r and moves by w; one that is far in x or in y counts as no danger, whatever the far
+-- distance and its speed
 abbrev pub utility_by : ℕ → ℕ → Vector → Vector → ℕ
 utility_by near far r w = if is_far r then 100000 else utility_between near far (closest r w)
 

@@ -27,57 +27,58 @@ pub record IsAvoid (spec : Spec) : Type 0 where
   pub valid : IsValidSpec spec
   pub avoids : is_avoid spec.shape ≡ true
 
--- its functions can be made over these axes: they have course and speed, and suit it
+-- the functions of a behaviour can be made over these axes: they have those that it needs, and suit it
 pub record CanServe (axes : List Axis) (spec : Spec) : Type 0 where
   pub named : IsTrue (has_axes axes spec.shape)
   pub suited : IsTrue (suits axes spec.shape)
 
--- where the contact is and how it moves, if these four numbers are given
+-- where the contact was reported to be and how it moved, if these four numbers are given
 abbrev pub track_from : Option ℤ → Option ℤ → Option ℤ → Option ℤ → Option Track
 track_from x y speed heading =
     option_and_then (λ east. option_and_then (λ north. option_and_then (λ fast. option_map (λ angle. record { x = east; y = north; speed = fast; heading = angle }) heading) speed) y) x
 
--- where the contact of these parameters is and how it moves
+-- where the contact of these parameters was last reported to be and how it moved, however long ago that was, if all four numbers
+-- are given
 abbrev pub track_in : Avoidance → Option Track
 track_in avoidance = track_from avoidance.contact_x avoidance.contact_y avoidance.contact_speed avoidance.contact_heading
 
--- the number that a point has on the axis of this name
+-- the number at the place that a point has on the axis of this name
 abbrev pub number_named : List Axis → List ℕ → Point → ℤ
 number_named axes name point = value_on (named_axis axes name) (place_on axes name point)
 
--- The utility at a point: that of its speed and its course by the closest approach of the contact.
+-- The utility of a point's speed and course by the closest approach of the contact, before it is sampled.
 abbrev pub clearance_at : List Axis → Avoidance → Spot → Track → Point → ℕ
 clearance_at axes avoidance own track point =
     approach_utility (nat_abs avoidance.near) (nat_abs avoidance.far) own track (number_named axes (codes "speed") point) (number_named axes (codes "course") point)
 
--- its pieces: that utility, sampled in boxes of the piece size
+-- the pieces of keeping clear of a contact: its utility, sampled in boxes of the piece size
 abbrev pub clearance_pieces : List Axis → Avoidance → Spot → Track → List Piece
 clearance_pieces axes avoidance own track = uniform_pieces axes avoidance.piece_size (λ point. pos (clearance_at axes avoidance own track point))
 
--- what those are worth at a point
+-- what keeping clear of a contact is worth at a point: the value there of its utility, sampled in boxes of the piece size
 abbrev pub sampled_clearance : List Axis → Avoidance → Spot → Track → Point → ℕ
 sampled_clearance axes avoidance own track point = nat_abs (uniform_at axes avoidance.piece_size (λ at. pos (clearance_at axes avoidance own track at)) point)
 
--- its function, of those pieces
+-- the function of keeping clear of a contact, of those sampled pieces
 abbrev pub clearance_function : List Axis → Avoidance → Spot → Track → Function
 clearance_function axes avoidance own track = record { axes = axes; pieces = clearance_pieces axes avoidance own track }
 
--- it gives nothing
+-- a step that gives nothing
 abbrev pub nothing_out : Out
 nothing_out = record { func = None; course = false; speed = false; depth = false; done = false; fault = None }
 
--- it gives the function of a contact that moves so, if that is known
+-- what keeping clear of a contact gives: the function of one that moves so, if that is known
 abbrev pub out_clear_of : List Axis → Avoidance → Spot → Option Track → Out
 out_clear_of axes avoidance own None = nothing_out
 out_clear_of axes avoidance own (Some track) =
     record { func = Some (clearance_function axes avoidance own track); course = true; speed = true; depth = false; done = false; fault = None }
 
--- what it gives at the own position; if that isn't known, there is a fault
+-- what keeping clear of a contact gives at the own position; if that isn't known, there is a fault
 abbrev pub out_seen_from : List Axis → Avoidance → Option Spot → Out
 out_seen_from axes avoidance None = record nothing_out { fault = Some NoPosition }
 out_seen_from axes avoidance (Some own) = out_clear_of axes avoidance own (track_in avoidance)
 
--- what it gives: it is done if the contact is clear for good
+-- what keeping clear of a contact gives: it is done if the contact is clear for good
 abbrev pub out_by : List Axis → Avoidance → Knowledge → Out
 out_by axes avoidance known = if avoidance.resolved then record nothing_out { done = true } else out_seen_from axes avoidance (position_of known)
 
@@ -86,7 +87,7 @@ abbrev pub avoid_out : List Axis → Shape → Knowledge → Out
 avoid_out axes (AvoidCollision avoidance) known = out_by axes avoidance known
 avoid_out axes other known = nothing_out
 
--- its four numbers are given
+-- the behaviour keeps clear of a contact, and the four numbers of that are given
 abbrev pub has_track : Shape → Bool
 has_track (AvoidCollision avoidance) = is_some (track_in avoidance)
 has_track other = false

@@ -82,7 +82,7 @@ pictures_from before (said ∷ later) = picture_after (before ++ said) ∷ pictu
 abbrev pub pictures_of : Turns → List Picture
 pictures_of turns = pictures_from [] turns
 
--- where a contact is
+-- where a contact was, by its report
 abbrev pub contact_place : Report → Spot
 contact_place report = record { x = report.x; y = report.y }
 
@@ -106,18 +106,19 @@ pair_saying var text = record { var = var; value = Text text }
 abbrev pub behavior_name : Report → List ℕ
 behavior_name report = codes "name=avd_" ++ report.name
 
--- what the behaviour of an inside contact is told: its name and the contact's, where the contact is and how it moves
+-- what the behaviour of an inside contact is told: its name and the contact's, and where the contact was and how it moved by its
+-- latest report
 abbrev pub inside_text : Report → List ℕ
 inside_text report =
     behavior_name report ++ codes " # contact=" ++ report.name ++ codes " # contact_x=" ++ milli_text report.x ++ codes " # contact_y="
     ++ milli_text report.y ++ codes " # contact_speed=" ++ milli_text report.speed ++ codes " # contact_heading=" ++ milli_text report.heading
 
--- what it is told once its contact is outside
+-- what the behaviour of a contact is told once that is outside
 abbrev pub outside_text : Report → List ℕ
 outside_text report = behavior_name report ++ codes " # resolved=" ++ codes "true"
 
--- What is posted of a contact at a turn, by whether it was inside before and whether it is now: an alert at the crossing
--- inward, a resolution at the crossing outward, and while it is inside where it is and how it moves.
+-- What is posted of a contact at a turn, by whether it was inside before and whether it is now: an alert at the crossing inward,
+-- a resolution at the crossing outward, and while it is inside where it was and how it moved by its latest report.
 abbrev pub contact_posts : Bool → Bool → Report → List Pair
 contact_posts false false report = []
 contact_posts false true report = pair_saying (codes "CONTACT_ALERT") report.name ∷ pair_saying (codes "CONTACT_INFO") (inside_text report) ∷ []

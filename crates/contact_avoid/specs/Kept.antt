@@ -43,7 +43,7 @@ learnt_in_place report known (Some place) = renewed report known place
 abbrev pub learnt : Report → List Contact → List Contact
 learnt report known = learnt_in_place report known (position (is_named_as report.name) known)
 
--- the same if there may be none
+-- the contacts with what a report tells, if there is one
 abbrev pub with_reported : Option Report → List Contact → List Contact
 with_reported None known = known
 with_reported (Some report) known = learnt report known

@@ -18,7 +18,7 @@ use Rattle.contact_avoid.specs.declared.ranges.Ranges.{Ranges}
 abbrev pub usual_ranges : Ranges
 usual_ranges = record { alert = 50000; clear = 60000 }
 
--- the ranges with this distance there
+-- the ranges with this distance for the one of this name
 abbrev pub with_range : Ranges → RangeName → ℕ → Ranges
 with_range ranges Alert distance = record ranges { alert = distance }
 with_range ranges Clear distance = record ranges { clear = distance }
@@ -34,17 +34,17 @@ range_named name =
 abbrev pub range_distance : ℤ → Option ℕ
 range_distance number = if int_le (pos 0) number && int_le number (pos 10000000) then Some (nat_abs number) else None
 
--- the ranges with this distance there, which must be one
+-- the ranges with a distance for the one of this name; without a distance the line is refused
 abbrev pub with_range_distance : Ranges → RangeName → Option ℕ → Result Ranges Cause
 with_range_distance ranges range None = Err C2
 with_range_distance ranges range (Some distance) = Ok (with_range ranges range distance)
 
--- the ranges with this number there, which must be one and a distance
+-- the ranges with a number for the one of this name; one that is missing or no distance is refused
 abbrev pub with_range_number : Ranges → RangeName → Option ℤ → Result Ranges Cause
 with_range_number ranges range None = Err C2
 with_range_number ranges range (Some number) = with_range_distance ranges range (range_distance number)
 
--- the same of the range that a line names, which must be one
+-- the ranges with a number for the one that a line names; a line that names none is refused
 abbrev pub with_range_named : Ranges → Option RangeName → Option ℤ → Result Ranges Cause
 with_range_named ranges None number = Err C1
 with_range_named ranges (Some range) number = with_range_number ranges range number
@@ -54,7 +54,7 @@ abbrev pub with_range_line : Ranges → Option Sides → Result Ranges Cause
 with_range_line ranges None = Err C1
 with_range_line ranges (Some set) = with_range_named ranges (range_named set.name) (milli_of set.value)
 
--- the same by what the line says
+-- the ranges after a line that says something
 abbrev pub with_statement : Ranges → Statement → Result Ranges Cause
 with_statement ranges said = with_range_line ranges (sides_of said.text)
 

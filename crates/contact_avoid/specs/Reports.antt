@@ -12,7 +12,7 @@ use Rattle.contact_avoid.specs.declared.report.Report.{Report}
 abbrev pub is_comma : ℕ → Bool
 is_comma byte = byte == 44
 
--- the fields of a report are between its commas
+-- the fields of a report are between its commas; an empty text is one empty field
 abbrev pub report_fields : List ℕ → List (List ℕ)
 report_fields text = slice_split is_comma text
 
@@ -25,7 +25,7 @@ fields_left (Some rest) = report_fields rest.now
 abbrev pub has_sides : List ℕ → Bool
 has_sides field = is_some (sides_of field)
 
--- all fields of a text have it
+-- all fields of a text have the form KEY=value
 abbrev pub have_sides : List ℕ → Bool
 have_sides text = list_all has_sides (report_fields text)
 

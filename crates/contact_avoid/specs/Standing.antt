@@ -1,4 +1,4 @@
--- What a manager keeps of the turns that it has had, and what one turn more does to it.
+-- What a manager keeps of the turns that it has had, and what one more turn does to it.
 use Rattle.std.specs.Prelude.{◌≡◌, List, [], ◌∷◌, ◌++◌, map, codes}
 use Rattle.moos_post.specs.declared.value.Pair.{Pair}
 use Rattle.moos_db.specs.declared.mail.Letter.{Letter}
@@ -30,8 +30,7 @@ pub record Knows (ranges : Ranges) (turns : Turns) (manager : Manager) : Type 0 
   pub set : manager.ranges ≡ ranges
   pub kept : AreKnownContacts ranges (pictures_of turns) (said_in_all turns) manager.known_contacts
 
--- The manager has had one turn more: whichever turns it knew, it knows them with this one behind, and the batch is what that turn
--- posts.
+-- The manager has had one more turn: whichever turns it knew, it knows them with this one behind, and the batch is what that turn posts.
 pub record HasHadTurn (mail : List Letter) (batch : List Pair) (old new : Manager) : Type 0 where
   pub known : (ranges : Ranges) (turns : Turns) → Knows ranges turns old → Knows ranges (turns ++ pairs_said mail ∷ []) new
   pub posted : (ranges : Ranges) (turns : Turns) → Knows ranges turns old →

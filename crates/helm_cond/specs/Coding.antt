@@ -15,7 +15,7 @@ postfix (Not one) = postfix one ++ NotWord ∷ []
 postfix (And one other) = (postfix one ++ postfix other) ++ AndWord ∷ []
 postfix (Or one other) = (postfix one ++ postfix other) ++ OrWord ∷ []
 
--- the conditions that a row has made, the last first, after one symbol more
+-- the conditions that a row has made, the last first, after one more symbol
 abbrev pub rebuilt : List Condition → Symbol → List Condition
 rebuilt made (Test comparison) = Compare comparison ∷ made
 rebuilt [] NotWord = []

@@ -22,7 +22,7 @@ pub data Condition : Type 0 where
 abbrev pub is_of_mode : Comparison → Bool
 is_of_mode comparison = bytes_eq comparison.var (codes "MODE")
 
--- equal numbers, or texts that are equal without ASCII case
+-- equal numbers, or texts that are equal ignoring the case of ASCII letters
 abbrev pub same_value : Value → Value → Bool
 same_value (Num a) (Num b) = int_eq a b
 same_value (Text a) (Text b) = str_eq_ignore_ascii_case a b
@@ -49,7 +49,7 @@ abbrev pub known_compares : Operator → Option Value → Value → Bool
 known_compares operator None literal = false
 known_compares operator (Some value) literal = compares operator value literal
 
--- the names that a mode's text, or a text that is compared with it, has between its `:`
+-- the names that a mode's text, or a text that is compared with it, has between its `:`; an empty text has one empty name
 abbrev pub mode_names : List ℕ → List (List ℕ)
 mode_names text = slice_split (λ byte. byte == 58) text
 
@@ -58,7 +58,7 @@ abbrev pub mode_parts : List ℕ → List (List ℕ)
 mode_parts [] = []
 mode_parts (byte ∷ bytes) = mode_names (byte ∷ bytes)
 
--- the path begins with these parts, without ASCII case
+-- the path begins with these parts, ignoring the case of ASCII letters
 abbrev pub begins_with : List (List ℕ) → List (List ℕ) → Bool
 begins_with [] path = true
 begins_with (part ∷ parts) [] = false

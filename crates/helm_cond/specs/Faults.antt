@@ -6,12 +6,12 @@ use Rattle.moos_text.specs.declared.pair.PairFault.TheVariants.{NoEquals, BadNam
 use Rattle.helm_cond.specs.declared.fault.CondFault.{CondFault}
 use Rattle.helm_cond.specs.declared.fault.CondFault.TheVariants.{BadCondition, NoMemory}
 
--- of a name
+-- why a condition is refused, by the fault of a name
 abbrev pub of_name : NameFault → CondFault
 of_name BadName = BadCondition
 of_name NoMemoryForName = NoMemory
 
--- of a value
+-- why a condition is refused, by the fault of a value
 abbrev pub of_value : PairFault → CondFault
 of_value NoEquals = BadCondition
 of_value BadVariable = BadCondition

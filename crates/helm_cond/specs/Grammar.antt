@@ -95,7 +95,7 @@ literal_of Closing = None
 literal_of (Sign bytes) = None
 literal_of Unclosed = None
 
--- `not`, `and` and `or`, without ASCII case
+-- `not`, `and` and `or`, ignoring the case of ASCII letters
 abbrev pub connective_of : List ℕ → Option Symbol
 connective_of word =
     if str_eq_ignore_ascii_case word (codes "or") then Some OrWord
@@ -187,7 +187,7 @@ pub record Nesting : Type 0 where
   pub here : List Item
   pub around : List (List Item)
 
--- these two
+-- a place with these items behind it at its level and these at the levels around
 abbrev pub nested : List Item → List (List Item) → Nesting
 nested here around = record { here = here; around = around }
 
@@ -210,7 +210,7 @@ levels_of (AndWord ∷ symbols) = onto_level AndItem (levels_of symbols)
 levels_of (OrWord ∷ symbols) = onto_level OrItem (levels_of symbols)
 levels_of (Test comparison ∷ symbols) = onto_level (Operand (Some (Compare comparison))) (levels_of symbols)
 
--- with so many parentheses open before these symbols, at most 64 are ever open
+-- with `depth` parentheses open before these symbols, at most 64 are ever open
 abbrev pub is_shallow : ℕ → List Symbol → Bool
 is_shallow depth [] = true
 is_shallow depth (Open ∷ symbols) = nat_lt depth 64 && is_shallow (suc depth) symbols

@@ -5,8 +5,8 @@ use Rattle.helm_cond.specs.declared.level.Level.{Level}
 use Rattle.helm_cond.specs.declared.symbol.Symbol.{Symbol}
 use Rattle.helm_cond.specs.declared.symbol.Symbol.TheVariants.{Open, Close, Not, And, Or, Test}
 
--- These symbols make a condition whole of which so many parentheses are open, and whose last symbol was an operand's
--- (`ready`) or asks for one.
+-- These symbols make a condition whole of which `depth` parentheses are open, and whose last symbol was an operand's (true) or
+-- asks for one (false).
 abbrev pub accepts : ℕ → Bool → List Symbol → Bool
 accepts zero true [] = true
 accepts (suc depth) true [] = false

@@ -7,7 +7,7 @@ abbrev pub ends_part : List ℕ → Bool
 ends_part [] = true
 ends_part (byte ∷ bytes) = byte == 58
 
--- the mode's text begins with the text, without ASCII case, and a part of it ends there
+-- the mode's text begins with the text, ignoring the case of ASCII letters, and a part of it ends there
 abbrev pub begins_text : List ℕ → List ℕ → Bool
 begins_text [] mode = ends_part mode
 begins_text (byte ∷ text) [] = false

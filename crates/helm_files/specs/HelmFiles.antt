@@ -6,7 +6,7 @@ use Rattle.helm_files.specs.declared.loading.HelmFiles.{HelmFiles}
 use Rattle.mission_reader.specs.declared.mission.Mission.{Mission}
 use Rattle.moos_play.specs.Lawful.{HelmSetup, helm_number}
 use Rattle.moos_report.specs.declared.setup.Setup.{Setup}
-use Rattle.moos_report.specs.Setups.{no_modes}
+use Rattle.moos_report.specs.Setups.{setup_without_helm}
 use Rattle.moos_text.specs.declared.cause.Cause.TheVariants.{M8}
 use Rattle.moos_text.specs.declared.cause.ReadFault.{ReadFault}
 use Rattle.moos_text.specs.declared.cause.ReadFault.TheVariants.{At}
@@ -22,5 +22,5 @@ helm_setup_by script files = record { client = helm_number script; plan = plan_m
 
 -- what a report tells of the behaviour file: its unused parameters, and that its modes are told if it declares any
 abbrev pub setup_of : Option HelmFiles → Setup
-setup_of None = no_modes
+setup_of None = setup_without_helm
 setup_of (Some files) = record { unused = files.file.unused; modes = are_declared_modes files.file.decls }

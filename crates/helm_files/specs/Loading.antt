@@ -13,14 +13,15 @@ use Rattle.mission_reader.specs.Validity.{IsValidMission}
 use Rattle.moos_text.specs.Refusals.{and_then}
 use Rattle.script_reader.specs.declared.script.Script.{Script}
 
--- behind a mission, by the bytes of the behaviour file that it names and of what is behind it, and by what follows a helm of both
+-- Where a job is once its mission is read: it wants the behaviour file that the mission names. If that is good, `next` says how
+-- it goes on with a helm of both.
 abbrev pub behaviors_turn : {T : Type 0} → (HelmFiles → List (List ℕ) → FileTurn T) → Mission → List (List ℕ) → FileTurn T
 behaviors_turn next mission [] = Wanted BehaviorsFile mission.behaviors
 behaviors_turn next mission (bytes ∷ more) =
     turn_behind BehaviorsFile (λ file. next (record { mission = mission; file = file }) more) (behaviors_of mission.domain bytes)
 
--- behind a script, by the bytes of the mission of this name, of its behaviour file, and of what is behind them, and by what follows a helm
--- of both
+-- Where a job is once its script is read: it wants the mission of this name. If that is good, and has few enough ticks for the
+-- script, the job goes on as `behaviors_turn` says.
 abbrev pub helm_turn : {T : Type 0} → (HelmFiles → List (List ℕ) → FileTurn T) → Script → List ℕ → List (List ℕ) → FileTurn T
 helm_turn next script name [] = Wanted MissionFile name
 helm_turn next script name (bytes ∷ more) =
@@ -34,7 +35,8 @@ helm_alone files more = Ready files
 abbrev pub nothing_written : Outcomes HelmFiles
 nothing_written = record { MayWrite = λ files status text. ⊥; IsWrittenAsItComes = λ files. ⊥ }
 
--- these are in the bytes that the folder tells, if it does: a mission under this name, and the behaviour file that it names
+-- the files of a helm are in the bytes that the folder tells, if it does: a mission under this name, and the behaviour file that
+-- it names
 pub record WereLoaded (told : Option (List ℕ → Option (List ℕ))) (script : Script) (name : List ℕ) (files : HelmFiles) : Type 0 where
   pub mission : List ℕ
   pub mission_told : HasBytes told name mission
@@ -43,7 +45,7 @@ pub record WereLoaded (told : Option (List ℕ → Option (List ℕ))) (script :
   pub behaviors_told : HasBytes told files.mission.behaviors behaviors
   pub behaviors_read : behaviors_of files.mission.domain behaviors ≡ Ok files.file
 
--- both are as their readers leave them, and the mission's domain has the axes that the behaviours need
+-- a mission and a behaviour file are as their readers leave them, and the mission's domain has the axes that the behaviours need
 pub record AreValidFiles (files : HelmFiles) : Type 0 where
   pub mission : IsValidMission files.mission
   pub file : IsValidFile files.file

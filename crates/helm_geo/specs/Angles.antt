@@ -12,7 +12,7 @@ sines =
     9397 ∷ 9455 ∷ 9511 ∷ 9563 ∷ 9613 ∷ 9659 ∷ 9703 ∷ 9744 ∷ 9781 ∷ 9816 ∷ 9848 ∷ 9877 ∷ 9903 ∷ 9925 ∷ 9945 ∷ 9962 ∷ 9976 ∷
     9986 ∷ 9994 ∷ 9998 ∷ 10000 ∷ []
 
--- the sine of at most 180 degrees, in ten-thousandths: from 90 degrees on it is that of the rest to 180
+-- the sine of an angle up to 180 degrees, in ten-thousandths; beyond 90 degrees it is that of 180 less the angle
 unfoldable pub half_sine : ℕ → ℕ
 half_sine degree = slice_index sines (min degree (180 - degree))
 
@@ -28,7 +28,7 @@ cos4 degree = sin4 ((degree + 90) % 360)
 abbrev pub along : ℤ → ℤ → ℕ → ℤ
 along dx dy degree = dx *ℤ sin4 degree +ℤ dy *ℤ cos4 degree
 
--- the first of so many degrees from 0 on along which a step leads farthest
+-- of the first `count` degrees, from 0 on, the least along which a step leads farthest
 unfoldable pub farthest : ℤ → ℤ → ℕ → ℕ
 farthest dx dy zero = 0
 farthest dx dy (suc count) =

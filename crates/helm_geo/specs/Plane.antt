@@ -22,7 +22,7 @@ is_right_of a b p = is_left_of b a p
 abbrev pub square : ℕ → ℕ
 square n = n * n
 
--- the square of the distance of two spots, in thousandths
+-- the square of the distance of two spots, the distance counted in thousandths
 abbrev pub distance_squared : Spot → Spot → ℕ
 distance_squared p q = square (nat_abs (q.x -ℤ p.x)) + square (nat_abs (q.y -ℤ p.y))
 
@@ -30,7 +30,7 @@ distance_squared p q = square (nat_abs (q.x -ℤ p.x)) + square (nat_abs (q.y -�
 abbrev pub within : Spot → Spot → ℕ → Bool
 within p q radius = nat_le (distance_squared p q) (square radius)
 
--- the root of a number of at most so many digits to the base 4, rounded down: twice that of its fourth part, or one more
+-- the root of a number of at most `digits` digits to the base 4, rounded down: twice that of its fourth part, or one more
 abbrev pub root_by_digits : ℕ → ℕ → ℕ
 root_by_digits zero n = 0
 root_by_digits (suc digits) n =

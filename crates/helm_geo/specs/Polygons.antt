@@ -18,7 +18,7 @@ is_bent [] = false
 is_bent (a ∷ []) = false
 is_bent (a ∷ b ∷ others) = list_all (is_left_of a b) others || list_all (is_right_of a b) others
 
--- 3 to 64 vertices, and from each side all others lie strictly on one and the same side of it
+-- 3 to 64 vertices, and of each side's line all other vertices lie strictly on one side
 abbrev pub convex : List Spot → Bool
 convex vertices = nat_le 3 (length vertices) && nat_le (length vertices) 64 && at_each_side is_bent vertices
 
@@ -38,6 +38,6 @@ has_on_right p (a ∷ b ∷ others) = is_right_of a b p
 abbrev pub inside : List Spot → Spot → Bool
 inside vertices p = at_each_side (λ side. not (has_on_left p side)) vertices || at_each_side (λ side. not (has_on_right p side)) vertices
 
--- each vertex is within the bounds of a spot
+-- each vertex is a spot: both its coordinates are within 10^12 thousandths of 0
 abbrev pub are_spots : List Spot → Bool
 are_spots vertices = list_all is_spot vertices

@@ -14,7 +14,7 @@ use Rattle.ivp_build.specs.Shapes.{at_least_profile, at_most_profile, is_right, 
 abbrev pub level : List ℤ
 level = pos 0 ∷ pos 0 ∷ pos 0 ∷ pos 0 ∷ []
 
--- one piece of one value
+-- the one piece that has this value everywhere
 abbrev pub flat_pieces : List Axis → ℤ → List Piece
 flat_pieces axes value = record { area = whole axes; base = value; slope = level } ∷ []
 

@@ -30,14 +30,14 @@ nine a b c =
 abbrev pub none_after : ℕ → List ℕ
 none_after count = count ∷ count ∷ count ∷ []
 
--- the ends round a circle of so many places: behind `far`, half way round from the summit, the left side begins
+-- the ends round a circle of `count` places: behind `far`, half way round from the summit, the left side begins
 abbrev pub round_ends : Slopes → ℕ → ℕ → List ℕ
 round_ends s summit count =
     let far = summit + count / 2 in
     if nat_lt far count then nine (rising_ends s 0 0 summit) (falling_ends s summit 0 (far + 1)) (rising_ends s (far + 1) summit count)
     else nine (falling_ends s 0 (count - summit) (far + 1 - count)) (rising_ends s (far + 1 - count) 0 summit) (falling_ends s summit 0 count)
 
--- the ends along an axis of so many places
+-- the ends along an axis of `count` places
 abbrev pub cut_ends : Slopes → ℕ → Crest → List ℕ
 cut_ends s count (At summit) = nine (rising_ends s 0 0 summit) (falling_ends s summit 0 count) (none_after count)
 cut_ends s count (Round summit places) = round_ends s summit count

@@ -1,4 +1,5 @@
--- Uniform: a utility of any form, sampled. The domain is cut into boxes of one size, and on each the piece fits the low corner and the change from there to the high end of each axis.
+-- Uniform: a utility of any form, sampled. The domain is cut into boxes of one size, and on each the piece fits the low corner
+-- and the change from there to the high end of each axis.
 use Rattle.std.specs.Prelude.{◌≡◌, ℕ, ◌+◌, ◌-◌, ◌*◌, ◌/◌, ◌^◌, ◌<◌, ◌==◌, ℤ, pos, ◌+ℤ◌, ◌-ℤ◌, ◌*ℤ◌, ◌≤ℤ◌, neg_ℤ, int_div, Bool, IsTrue, Some, min, if◌then◌else◌, List, [], ◌∷◌, length, map, slice_get, slice_set, slice_index, slice_index_or}
 use Rattle.std.specs.Int.{int_max, int_min}
 use Rattle.std.specs.Fn.{Shared}
@@ -13,7 +14,7 @@ use Rattle.ivp_func.specs.declared.piece.Piece.{Piece}
 use Rattle.ivp_func.specs.Pieces.{is_piece_of, is_slope, is_value, piece_value}
 use Rattle.ivp_build.specs.Builders.{level}
 
--- the runs of so many places on each axis, by number: from that of place 0 to that of the last place, which may be shorter
+-- the runs of `size` places on each axis, by number: from that of place 0 to that of the last place, which may be shorter
 abbrev pub all_runs : List Axis → ℕ → BoxN
 all_runs axes size =
     let last_run = λ (axis : ℕ). (size_on axis axes - 1) / size in
@@ -22,11 +23,11 @@ all_runs axes size =
       high = last_run 0 ∷ last_run 1 ∷ last_run 2 ∷ last_run 3 ∷ [];
     }
 
--- the first place of a run
+-- the first place of a run of `size` places
 abbrev pub first_of_run : ℕ → ℕ → ℕ
 first_of_run size run = run * size
 
--- its last place, on an axis of so many
+-- the last place of a run of `size` places, on an axis of `count` places
 abbrev pub last_of_run : ℕ → ℕ → ℕ → ℕ
 last_of_run size count run = min (first_of_run size run + size) count - 1
 
@@ -77,7 +78,7 @@ grown_at area value slopes point =
     let grown = λ (axis : ℕ). slice_index_or slopes axis (pos 0) *ℤ pos (slice_index point.at axis - slice_index area.low axis) in
     value +ℤ grown 0 +ℤ grown 1 +ℤ grown 2 +ℤ grown 3
 
--- it is from 0 to 100,000 at each point of the box
+-- the value that grows evenly by these slopes is from 0 to 100,000 at each point of the box
 abbrev pub stays_in_range : BoxN → ℤ → List ℤ → Bool
 stays_in_range area value slopes = list_all (λ point. is_value (grown_at area value slopes point)) (points_in area)
 
@@ -124,7 +125,7 @@ pub record IsAskedIn {F : Type 0} (calls : Shared F (Bor Point × Unit {0}) ℤ)
   pub callable : (point : Bor Point) → IsTrue (has_point area point.now) → calls.pre utility (point, tt)
   pub values : (point : Bor Point) (answer : ℤ) → IsTrue (has_point area point.now) → calls.post utility (point, tt) answer → IsTrue (is_value answer)
 
--- what it answers at the points of a box is what this function gives
+-- what a utility answers at the points of a box is what this function gives
 abbrev pub Computes : {F : Type 0} → Shared F (Bor Point × Unit {0}) ℤ → F → BoxN → (Point → ℤ) → Type 0
 Computes calls utility area gives = (point : Bor Point) (answer : ℤ) → IsTrue (has_point area point.now) → calls.post utility (point, tt) answer → answer ≡ gives point.now
 
@@ -143,7 +144,7 @@ pub record AreSampled (axes : List Axis) (size : ℕ) (pieces : List Piece) : Ty
 abbrev pub least_growth : BoxN → List ℤ → ℕ → ℤ
 least_growth area slopes axis = int_min (slice_index_or slopes axis (pos 0) *ℤ pos (slice_index area.high axis - slice_index area.low axis)) (pos 0)
 
--- and at most
+-- what a slope adds at most from the low corner of a box along an axis: nothing, or what it adds at the high end
 abbrev pub most_growth : BoxN → List ℤ → ℕ → ℤ
 most_growth area slopes axis = int_max (slice_index_or slopes axis (pos 0) *ℤ pos (slice_index area.high axis - slice_index area.low axis)) (pos 0)
 

@@ -18,11 +18,12 @@ shoulder s = s.max - s.fall * s.top
 abbrev pub zone_of : Slopes → ℕ → ℕ
 zone_of s distance = if nat_le distance s.top then 0 else if nat_le distance (s.top + s.foot) then 1 else 2
 
--- what is lost at each place of a zone, rounded down
+-- what is lost at each place of a zone: over the foot an equal part of what the top leaves, rounded down
 abbrev pub fall_in : Slopes → ℕ → ℕ
 fall_in s zone = if zone == 0 then s.fall else if zone == 1 then shoulder s / s.foot else 0
 
--- the utility at a distance: it falls over the top, then evenly to 0 over the foot
+-- The utility at a distance: it falls by `fall` a place over the top, then over the foot by an equal part of what is left,
+-- rounded down, and is 0 beyond the foot. At the end of the foot less than its number of places may be left.
 abbrev pub height_at : Slopes → ℕ → ℕ
 height_at s distance =
     if nat_le distance s.top then s.max - s.fall * distance
@@ -64,7 +65,8 @@ change_at profile place =
     let fall = pos (fall_in profile.slopes (zone_at profile place)) in
     if is_right profile.crest place then neg_ℤ fall else fall
 
--- the slopes of a peak: one loss over the top's width, then to 0 over the foot's
+-- the slopes of a peak: `summitdelta` is lost over the places of its peak width, in equal steps rounded down, and the rest over
+-- those of its base width
 abbrev pub peak_slopes : Axis → Peak → Slopes
 peak_slopes axis peak =
     let top = steps_of axis (nat_abs peak.peakwidth) in
@@ -76,7 +78,7 @@ peak_profile axis peak =
     let summit = near axis peak.summit in
     record { slopes = peak_slopes axis peak; crest = if wraps axis then Round summit axis.points else At summit }
 
--- the slopes beyond a limit: to 0 over a width
+-- the slopes beyond a limit: there is no top, and all is lost over the places of a width
 abbrev pub limit_slopes : Axis → ℕ → ℕ → Slopes
 limit_slopes axis basewidth max = record { max = max; fall = 0; top = 0; foot = steps_of axis basewidth }
 
@@ -109,7 +111,7 @@ pub record AreSlopes (s : Slopes) : Type 0 where
   pub top : s.top ≤ 10 ^ 12 * 2 ^ 28
   pub foot : s.foot ≤ 10 ^ 12 * 2 ^ 28
 
--- the place of greatest utility is one of so many, and a circle has just these
+-- the place of greatest utility is one of `count` places, and a circle has just these
 abbrev pub IsCrestOf : ℕ → Crest → Type 0
 IsCrestOf count (At summit) = summit < count
 IsCrestOf count (Round summit places) = (summit < count) × (places ≡ count)
@@ -122,7 +124,7 @@ IsLevelOnTop profile (UpTo last) = (profile.slopes.top ≡ 0) × (profile.slopes
 IsLevelOnTop profile (From first) = (profile.slopes.top ≡ 0) × (profile.slopes.fall ≡ 0)
 IsLevelOnTop profile _ = Unit {0}
 
--- a profile over an axis of so many places
+-- a profile over an axis of `count` places
 pub record IsProfileOf (count : ℕ) (profile : Profile) : Type 0 where
   pub slopes : AreSlopes profile.slopes
   pub crest : IsCrestOf count profile.crest

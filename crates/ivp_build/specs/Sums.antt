@@ -48,6 +48,6 @@ slope_apart ps qs = (is_level_on 0 ps || is_level_on 0 qs) && (is_level_on 1 ps 
 abbrev pub HaveRoom : List Axis → List Piece → List Piece → Type 0
 HaveRoom axes ps qs = (point : Point) → IsTrue (is_point axes point) → couple_at (value_at ps) (value_at qs) point ≤ℤ pos 100000
 
--- they are if the greatest values of both are
+-- The values of two functions are together at most 100,000 at each point if their greatest values are.
 abbrev pub TopsLeaveRoom : Type 0
 TopsLeaveRoom = (axes : List Axis) (ps qs : List Piece) (top other : ℤ) → IsTop axes ps top → IsTop axes qs other → (top +ℤ other) ≤ℤ pos 100000 → HaveRoom axes ps qs

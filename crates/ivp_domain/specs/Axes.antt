@@ -10,7 +10,7 @@ is_end number = int_le (neg_ℤ (pos (10 ^ 12))) number && int_le number (pos (1
 abbrev pub is_good_axis : Axis → Bool
 is_good_axis axis = nat_le 2 axis.points && int_lt axis.low axis.high && is_end axis.low && is_end axis.high
 
--- the number at a place: that part of the way from the low end to the high one, rounded down
+-- the number at a place, rounded down: as far from the low end to the high one as the place is from the first to the last
 abbrev pub value_on : Axis → ℕ → ℤ
 value_on axis place = axis.low +ℤ pos (place * nat_abs (axis.high -ℤ axis.low) / (axis.points - 1))
 

@@ -73,6 +73,6 @@ judged_axes axes None false same = Err TooLarge
 judged_axes axes None true (Some place) = Err (SameName place)
 judged_axes axes None true None = Ok axes
 
--- the domain that one to four axes make
+-- the domain that axes make, or the first refusal; that they are one to four isn't asked here
 abbrev pub domain_of : List Axis → Result (List Axis) DomainFault
 domain_of axes = judged_axes axes (bad_axis axes) (nat_le (size_of axes) (2 ^ 28)) (repeated_place axes)

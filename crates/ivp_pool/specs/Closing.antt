@@ -12,7 +12,8 @@ abbrev pub Pushed : List Node → List Node → Node → Option Node → Type 0
 Pushed took took' node None = took' ≡ took ++ node ∷ []
 Pushed took took' node (Some back) = (back ≡ node) × (took' ≡ took)
 
--- a node was closed while so much was known: it has a part, the tray took the handed nodes of that, in order, and so many nodes were closed as the part has others
+-- a node was closed while `low` was known: it has a part, the tray took the handed nodes of that, in order, and `count` nodes
+-- were closed, which are all others of the part
 pub record Closed (problem : WeightedSum) (low : Incumbent) (took took' : List Node) (node : Node) (count : ℕ) : Type 0 where
   pub part : TreePart
   pub is : IsPart problem low node part

@@ -16,7 +16,8 @@ hand parts put taken = record { parts = parts; put = put; taken = taken }
 abbrev pub IsIdleEmpty : Hand → Type 0
 IsIdleEmpty held = held.parts ≡ 0 → (held.put ≡ []) × (held.taken ≡ [])
 
--- the rule of a deque: what was put is what was taken and what is there, each once, so whatever nodes weigh the sums agree; what is there are nodes of the problem's tree
+-- the rule of a deque: what was put is what was taken and what is there, each once, so whatever nodes weigh the sums agree; what
+-- is there are nodes of the problem's tree
 pub record IsBalanced (problem : WeightedSum) (nodes : List Node) (hands : List Hand) : Type 0 where
   pub parts : sum_by (λ held. held.parts) hands ≡ 1024
   pub each_once : (weigh : Node → ℕ) → sum_by (λ held. sum_by weigh held.put) hands ≡ sum_by (λ held. sum_by weigh held.taken) hands + sum_by weigh nodes

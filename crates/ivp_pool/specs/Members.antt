@@ -28,7 +28,7 @@ module _ {K : Type 0} where
   abbrev pub put_by : (Node → ℕ) → Member K → ℕ
   put_by weigh member = sum_by weigh member.deque.hand.put + sum_by (λ (door : EndState). sum_by weigh door.hand.put) member.doors.items
 
-  -- what it has taken from them
+  -- what a member has taken from deques
   abbrev pub taken_by : (Node → ℕ) → Member K → ℕ
   taken_by weigh member = sum_by weigh member.deque.hand.taken + sum_by (λ (door : EndState). sum_by weigh door.hand.taken) member.doors.items
 
@@ -36,26 +36,26 @@ module _ {K : Type 0} where
   abbrev pub doors_of : Member K → List ((RowsId × Global) × ℕ)
   doors_of member = map tag_of member.doors.items
 
-  -- its deque and its doors are the same as before, whatever went through them
+  -- a member's deque and its doors are the same as before, whatever went through them
   pub record KeepsShape (old new : Member K) : Type 0 where
     pub deque : new.deque.deque ≡ old.deque.deque
     pub parts : new.deque.hand.parts ≡ old.deque.hand.parts
     pub doors : doors_of new ≡ doors_of old
 
-  -- it is the same as before
+  -- a member is the same as before
   pub record Same (old new : Member K) : Type 0 where
     pub worker : new.worker ≡ old.worker
     pub deque : new.deque ≡ old.deque
     pub doors : new.doors.items ≡ old.doors.items
 
-  -- it has taken a node from a deque
+  -- a member has taken a node from a deque
   pub record TookNode (node : Node) (old new : Member K) : Type 0 where
     pub worker : new.worker ≡ old.worker
     pub put : (weigh : Node → ℕ) → put_by weigh new ≡ put_by weigh old
     pub taken : (weigh : Node → ℕ) → taken_by weigh new ≡ taken_by weigh old + weigh node
     pub keeps : KeepsShape old new
 
-  -- it has closed nodes that it took, each once, and put what these calls handed to others
+  -- a member has closed nodes that it took, each once, and put what these calls handed to others
   pub record Did (problem : WeightedSum) (old new : Member K) : Type 0 where
     pub nodes : List Node
     pub handed : List Node
@@ -68,15 +68,15 @@ module _ {K : Type 0} where
   abbrev pub deques_of : List (Member K) → List (RowsId × Global)
   deques_of members = map (λ (member : Member K). member.deque.deque) members
 
-  -- their workers
+  -- the workers of these members
   abbrev pub workers_of : List (Member K) → List Worker
   workers_of members = map (λ (member : Member K). member.worker) members
 
-  -- what they have put into deques together
+  -- what these members have put into deques together
   abbrev pub put_in : (Node → ℕ) → List (Member K) → ℕ
   put_in weigh members = sum_by (put_by weigh) members
 
-  -- what they have taken from deques together
+  -- what these members have taken from deques together
   abbrev pub taken_in : (Node → ℕ) → List (Member K) → ℕ
   taken_in weigh members = sum_by (taken_by weigh) members
 
@@ -95,7 +95,7 @@ module _ {K : Type 0} where
   absorbed zero (door ∷ doors) (member ∷ members) = took_back member door ∷ absorbed zero doors members
   absorbed (suc place) (door ∷ doors) (member ∷ members) = member ∷ absorbed place doors members
 
-  -- a member that has made no call, and whose deque gave so many parts to doors
+  -- a member that has made no call, and whose deque gave `out` parts to doors
   pub record IsNewMember (problem : WeightedSum) (word : TableId) (out : ℕ) (member : Member K) : Type 0 where
     pub worker : IsNew problem word member.worker
     pub hand : member.deque.hand ≡ hand (1024 - out) [] []

@@ -36,7 +36,8 @@ mutual
     Then : TreePart → TreeParts → TreeParts
 
 abbrev mutual
-  -- the part is one of this node: no point of a pruned node's bound is wanted, and an expanded one isn't at full depth and has a part for each of its children
+  -- the part is one of this node: no point of a pruned node's bound is wanted, and an expanded one isn't at full depth and has a
+  -- part for each of its children
   pub IsPart : WeightedSum → Incumbent → Node → TreePart → Type 0
   IsPart problem low node Pruned = Outdoes low (bound_of problem node)
   IsPart problem low node Handed = Unit {0}

@@ -13,7 +13,8 @@ use Rattle.ivp_pool.specs.declared.work.Work.{Work}
 use Rattle.ivp_pool.specs.Parts.{handed_within, IsPart, Incumbent, KnowsMore, TreePart, part_size}
 use Rattle.ivp_pool.specs.Tallies.{handed_by, IsTally, Tally}
 
--- so many nodes are a part of the whole tree, with the root and nothing handed to others: each node has all its children there, or none and a bound of at most this key
+-- `count` nodes are a part of the whole tree, with the root and nothing handed to others: each node has all its children there,
+-- or none and a bound of at most this key
 pub record IsSearched (problem : WeightedSum) (key : Incumbent) (count : ℕ) : Type 0 where
   pub part : TreePart
   pub is : IsPart problem key (root_of problem) part
@@ -24,7 +25,7 @@ pub record IsSearched (problem : WeightedSum) (key : Incumbent) (count : ℕ) : 
 abbrev pub total_of : List Work → ℕ
 total_of works = sum_by (λ work. work.closed) works
 
--- calls closed these nodes, each once, while this key was known, handed those to others, and closed so many in all
+-- calls closed these nodes, each once, while this key was known, handed those to others, and closed `count` in all
 pub record AreClosed (problem : WeightedSum) (key : Incumbent) (nodes handed : List Node) (count : ℕ) : Type 0 where
   pub tallies : List Tally
   pub each : (place : ℕ) (tally : Tally) → slice_get tallies place ≡ Some tally → IsTally problem key tally

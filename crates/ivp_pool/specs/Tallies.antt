@@ -28,7 +28,8 @@ pub record IsTally (problem : WeightedSum) (key : Incumbent) (tally : Tally) : T
 abbrev pub AreLinked : WeightedSum → List Node → List Tally → Type 0
 AreLinked problem nodes tallies = (weigh : Node → ℕ) → sum_by (λ tally. weigh tally.node) tallies ≡ sum_by weigh nodes + sum_by (λ tally. sum_by weigh (handed_by problem tally)) tallies
 
--- together they are one part of the whole tree with nothing handed to others, and as many nodes as all parts without the handed ones; so no point is wanted
+-- together they are one part of the whole tree with nothing handed to others, and as many nodes as all parts without the handed
+-- ones; so no point is wanted
 pub record IsWholeTree (problem : WeightedSum) (key : Incumbent) (tallies : List Tally) : Type 0 where
   pub part : TreePart
   pub is : IsPart problem key (root_of problem) part

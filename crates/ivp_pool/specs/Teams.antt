@@ -17,7 +17,7 @@ module _ {K : Type 0} where
   abbrev pub AreWorkers : WeightedSum → TableId → List (Member K) → Type 0
   AreWorkers problem word members = All (λ (member : Member K). IsWorker problem word member.worker) members
 
-  -- this outdoes all that each outdoes
+  -- this outdoes all that the worker of each of these members outdoes
   abbrev pub AreBelow : Incumbent → List (Member K) → Type 0
   AreBelow key members = All (λ (member : Member K). KnowsMore (knows_of member.worker) key) members
 
@@ -25,11 +25,11 @@ module _ {K : Type 0} where
   abbrev pub closed_in : List (Member K) → ℕ
   closed_in members = sum_by (λ (member : Member K). member.worker.work.closed) members
 
-  -- their deques
+  -- the deques of these members
   abbrev pub deque_states : List (Member K) → List EndState
   deque_states members = map (λ (member : Member K). member.deque) members
 
-  -- their doors
+  -- the doors of each of these members
   abbrev pub door_rows : List (Member K) → List (List EndState)
   door_rows members = map (λ (member : Member K). member.doors.items) members
 
@@ -41,7 +41,8 @@ module _ {K : Type 0} where
   abbrev pub shapes_of : List (Member K) → List (((RowsId × Global) × ℕ) × List ((RowsId × Global) × ℕ))
   shapes_of members = map shape_of members
 
-  -- calls of members closed nodes, each once. Together with what is left of what the caller had in hand, and what was put into deques, these are what the caller had in hand, what the calls handed to others, and what was taken from deques
+  -- calls of members closed nodes, each once. Together with what is left of what the caller had in hand, and what was put into
+  -- deques, these are what the caller had in hand, what the calls handed to others, and what was taken from deques
   pub record AllDid (problem : WeightedSum) (word : TableId) (had left : List Node) (old new : List (Member K)) : Type 0 where
     pub nodes : List Node
     pub handed : List Node

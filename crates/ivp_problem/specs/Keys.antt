@@ -10,7 +10,7 @@ key_of sum index = record { sum = sum; index = index }
 abbrev pub AtMost : Key → Key → Type 0
 AtMost one other = (one.sum < other.sum) ⊎ ((one.sum ≡ other.sum) × (other.index ≤ one.index))
 
--- the same as a test
+-- a key is at most another, as a test
 abbrev pub is_at_most : Key → Key → Bool
 is_at_most one other = nat_lt one.sum other.sum || (one.sum == other.sum && nat_le other.index one.index)
 

@@ -5,7 +5,7 @@ use Rattle.ivp_problem.specs.declared.node.Node.{Node}
 use Rattle.ivp_problem.specs.Problems.{WeightedSum}
 use Rattle.ivp_problem.specs.Trees.{children_of, root_of}
 
--- this node and those below it, down so many levels: depth first, children in piece order
+-- this node and those below it, down `levels` levels: depth first, children in piece order
 abbrev pub nodes_from : WeightedSum → ℕ → Node → List Node
 nodes_from problem zero node = node ∷ []
 nodes_from problem (suc levels) node = node ∷ flat_map (nodes_from problem levels) (children_of problem node)

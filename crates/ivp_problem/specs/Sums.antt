@@ -39,7 +39,7 @@ least number (first ∷ points) = fold (λ least point. min least (number point)
 abbrev pub better : WeightedSum → Point → Point → Point
 better problem one other = if is_at_most (key_at problem other) (key_at problem one) then one else other
 
--- the point of greatest key among these
+-- the point of greatest key among these; that of place 0 on each axis if there is none
 abbrev pub best_among : WeightedSum → List Point → Point
 best_among problem [] = point_from 0 0 0 0
 best_among problem (point ∷ points) = fold (better problem) point points

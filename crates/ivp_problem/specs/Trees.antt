@@ -38,11 +38,11 @@ with_chosen weight piece node area =
       slope = slope_with weight piece node 0 ∷ slope_with weight piece node 1 ∷ slope_with weight piece node 2 ∷ slope_with weight piece node 3 ∷ [];
     }
 
--- the node with this piece chosen too, if the boxes share a point
+-- the node that also chooses this piece, if the boxes share a point
 abbrev pub child_with : ℕ → Node → Piece → Option Node
 child_with weight node piece = option_map (with_chosen weight piece node) (meet_of node.area piece.area)
 
--- the node with the piece of this number of a term chosen too
+-- the node that also chooses the term's piece of this number, if there is one and its box shares a point with the node's
 abbrev pub child_in : Term → Node → ℕ → Option Node
 child_in term node number = option_and_then (child_with term.weight node) (slice_get term.func.pieces number)
 
@@ -101,11 +101,12 @@ AreTops terms tops = (from : ℕ) → from ≤ length terms → slice_index tops
 abbrev pub rest_of : WeightedSum → Node → ℕ
 rest_of problem node = sum_by (top_of problem.axes) (drop node.depth problem.terms)
 
--- below full depth: the greatest sum of the chosen functions in the box, with the tops of the others, and the least index in the box
+-- the bound of a node that hasn't chosen from every function: the greatest sum in its box of those that it has chosen from, with
+-- the tops of the others, and the least index in the box
 abbrev pub partial_bound : WeightedSum → Node → Key
 partial_bound problem node =
     key_of (greatest (weighted_sum (take node.depth problem.terms)) (points_in node.area) + rest_of problem node) (least (index_of problem.axes) (points_in node.area))
 
--- the bound of a node: at full depth the greatest key in the box
+-- the bound of a node: the greatest key in its box if it has chosen from every function, and else `partial_bound`
 abbrev pub bound_of : WeightedSum → Node → Key
 bound_of problem node = if nat_lt node.depth (length problem.terms) then partial_bound problem node else key_at problem (best_among problem (points_in node.area))

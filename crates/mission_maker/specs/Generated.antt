@@ -41,12 +41,12 @@ registration_of_all interval = record { var = codes "V*"; source = codes "*"; in
 abbrev pub registration : ℕ → ℕ → Entry
 registration number k = line_at k k (Register (registration_of_all (500 * draw number k 3) ∷ []))
 
--- the registrations of the first clients, so many
+-- the registrations of the first k clients
 unfoldable pub registrations : ℕ → ℕ → List Entry
 registrations number zero = []
 registrations number (suc k) = registrations number k ++ registration number k ∷ []
 
--- nav has the vehicle start, and leaves it to the helm
+-- nav deploys the vehicle and lets the helm drive it
 abbrev pub start : Entry
 start = line_at 50 8 (Posts (saying (codes "DEPLOY") (Text (codes "true")) ∷ saying (codes "MOOS_MANUAL_OVERRIDE") (Text (codes "false")) ∷ []))
 
@@ -71,7 +71,7 @@ abbrev pub fetch_behind : ℕ → ℕ → ℕ → List Entry
 fetch_behind number second k =
     if draw number (draws_before second k + 2) 4 == 0 then line_at (turn_stamp second k + 1) k Fetch ∷ [] else []
 
--- the first turns of a second, so many
+-- the lines of the first k turns of a second
 unfoldable pub turns : ℕ → ℕ → ℕ → List Entry
 turns number second zero = []
 turns number second (suc k) = turns number second k ++ talk number second k ∷ fetch_behind number second k
@@ -84,7 +84,7 @@ position_told number second =
     (Posts (saying (codes "NAV_X") (whole_number (pos (draw number before 200)))
     ∷ saying (codes "NAV_Y") (whole_number (pos (draw number (before + 1) 200) -ℤ pos 200)) ∷ []))
 
--- the first seconds, so many
+-- the lines of all seconds before this one
 unfoldable pub seconds : ℕ → ℕ → List Entry
 seconds number zero = []
 seconds number (suc second) = seconds number second ++ turns number second 8 ++ position_told number second ∷ []

@@ -25,7 +25,7 @@ use Rattle.mission_reader.specs.declared.settings.Settings.{Settings}
 abbrev pub nothing_set : Settings
 nothing_set = record { period = 250; behaviors = None; domain = None; helm = false }
 
--- the milliseconds of one of so many thousandths of iterations a second, which are 0.001 to 1,000 iterations
+-- the milliseconds from one iteration to the next, rounded down, if a thousand seconds have `rate` of them, which are 1 to 1,000,000
 abbrev pub period_of : ℤ → Option ℕ
 period_of (pos rate) = if nat_le 1 rate && nat_le rate 1000000 then Some (1000000 / rate) else None
 period_of (negsuc rate) = None
@@ -60,7 +60,8 @@ with_mission_domain settings (Err TooLarge) = Err M4
 with_mission_domain settings (Err (BadAxis place)) = Err M3
 with_mission_domain settings (Err (SameName place)) = Err M3
 
--- one axis more: a fifth is refused, one of a name that an axis has, and one that makes no domain with those before it
+-- the settings with one more axis: a fifth is refused, one of a name that an axis has, and one that makes no domain with those
+-- before it
 abbrev pub with_mission_axis : Settings → Option Axis → Result Settings Cause
 with_mission_axis settings None = Err M3
 with_mission_axis settings (Some axis) =
@@ -81,7 +82,7 @@ pub record AppBlock : Type 0 where
   pub settings : Settings
   pub helm : Bool
 
--- these settings in such a block
+-- a block whose end is to come, with these settings, and the helm's or not
 abbrev pub app_block : Settings → Bool → AppBlock
 app_block settings helm = record { settings = settings; helm = helm }
 

@@ -11,8 +11,8 @@ use Rattle.mission_reader.specs.declared.mission.Mission.{Mission}
 abbrev pub HaveAxisNames : List Axis → Type 0
 HaveAxisNames axes = All (λ (axis : Axis). IsTrue (is_axis_name axis.name)) axes
 
--- Its period is 1 to 1,000,000 milliseconds, its behaviour file has a name that isn't empty, its axes have names and make a
--- domain, and it has a last line.
+-- A mission's period is 1 to 1,000,000 milliseconds, its behaviour file has a name that isn't empty, its axes have names and make
+-- a domain, and it has a last line.
 pub record IsValidMission (mission : Mission) : Type 0 where
   pub ticks : 1 ≤ mission.period
   pub slowest : mission.period ≤ 1000000

@@ -11,7 +11,8 @@ pub data ModePart : Type 0 where
   Named : ℕ → ModePart
   Other : ℕ → ModePart
 
--- the declaration's conditions all hold, if its parent line is passed over
+-- the declaration's conditions all hold, if its parent line is passed over; they are judged without a mode, since none of the
+-- others names MODE (`fits_mode`)
 abbrev pub is_met : Knowledge → Decl → Bool
 is_met known decl = list_all (λ cond. is_some (parent_of cond) || holds known [] cond) decl.conds
 
@@ -29,8 +30,8 @@ path_from below (Some number) other = Named number ∷ below number
 path_from below None (Some number) = Other number ∷ []
 path_from below None None = []
 
--- The path below a parent, of so many parts at most: the first of the siblings that is met and its children, or else the
--- OTHER name of the first that has one.
+-- The path below a parent, of at most `parts` parts: the first of the siblings that is met and its children, or else the OTHER
+-- name of the first that has one.
 abbrev pub path_below : List Decl → Knowledge → ℕ → Option ℕ → List ModePart
 path_below decls known zero parent = []
 path_below decls known (suc parts) parent =
@@ -41,15 +42,15 @@ path_below decls known (suc parts) parent =
 abbrev pub mode_of : List Decl → Knowledge → List ModePart
 mode_of decls known = path_below decls known 16 None
 
--- the name of a declaration by its number
+-- the name of the declaration of this number; empty if there is none
 abbrev pub name_of_decl : List Decl → ℕ → List ℕ
 name_of_decl decls number = slice_index_or (map (λ decl. decl.name) decls) number []
 
--- its OTHER name, empty if it has none
+-- the OTHER name of the declaration of this number; empty if it has none, or isn't there
 abbrev pub other_of_decl : List Decl → ℕ → List ℕ
 other_of_decl decls number = slice_index_or (map (λ decl. unwrap_or decl.other []) decls) number []
 
--- it has an OTHER name
+-- the declaration of this number has an OTHER name
 abbrev pub has_other : List Decl → ℕ → Bool
 has_other decls number = slice_index_or (map (λ decl. is_some decl.other) decls) number false
 

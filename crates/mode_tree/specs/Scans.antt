@@ -17,7 +17,7 @@ abbrev pub are_rooted : ℕ → List Decl → Bool
 are_rooted number [] = true
 are_rooted number (decl ∷ decls) = stands_before decl.parent number && are_rooted (number + 1) decls
 
--- the sibling whose OTHER name counts, with one sibling more of this number
+-- the sibling whose OTHER name counts, with one more sibling, of this number
 abbrev pub other_with : Option ℕ → ℕ → Decl → Option ℕ
 other_with (Some other) number decl = Some other
 other_with None number decl = if is_some decl.other then Some number else None
@@ -27,8 +27,8 @@ abbrev pub other_part : Option ℕ → List ModePart
 other_part None = []
 other_part (Some number) = Other number ∷ []
 
--- What is left of a path, of so many parts at most, under this parent, with the declarations from this number on left to
--- ask and the OTHER name of this sibling.
+-- What is left of a path, of at most `parts` parts, under this parent, with the declarations from this number on left to ask and
+-- the OTHER name of this sibling.
 abbrev pub scan : Knowledge → ℕ → Option ℕ → Option ℕ → ℕ → List Decl → List ModePart
 scan known zero parent other number decls = []
 scan known (suc parts) parent other number [] = other_part other

@@ -21,7 +21,7 @@ use Rattle.script_reader.specs.Validity.{IsValid}
 abbrev pub community_script : Community → Script
 community_script community = community.script.now
 
--- its history so far
+-- the history of a community so far
 abbrev pub community_history : Community → History
 community_history community = community.first.seat.seen
 
@@ -33,7 +33,7 @@ bridge_in community = bridge_number (community_script community)
 abbrev pub done_lines : Community → List Entry
 done_lines community = take community.from (community_script community).lines
 
--- those that are left
+-- the lines of a community that are left
 abbrev pub left_lines : Community → List Entry
 left_lines community = drop community.from (community_script community).lines
 
@@ -76,7 +76,7 @@ pub record GoesOnBy (added : List Entry) (before after : Community) : Type 0 whe
 abbrev pub StaysAt : Community → Community → Type 0
 StaysAt before after = after.from ≡ before.from
 
--- Its clients have played these lines, each its own in order.
+-- A community's clients have played these lines, each its own in order.
 pub record HasPlayedLines (lines : List Entry) (before after : Community) : Type 0 where
   pub added : List Entry
   pub on : GoesOnBy added before after
@@ -89,7 +89,8 @@ pub record IsStampEnd (stamp from to : ℕ) (lines : List Entry) : Type 0 where
   pub one : IsTrue (list_all (λ line. line.stamp == stamp) (lines_cut from to lines))
   pub over : is_next stamp (drop to lines) ≡ false
 
--- Its clients have played the lines of a stamp, which are the first that were left: none of this stamp or an earlier one is left.
+-- A community's clients have played the lines of a stamp, which are the first that were left: none of this stamp or an earlier
+-- one is left.
 pub record HasPlayedStamp (stamp : ℕ) (before after : Community) : Type 0 where
   pub lines : List Entry
   pub played : HasPlayedLines lines before after

@@ -1,4 +1,4 @@
--- Which letters a bridge leaves out: none.
+-- When a bridge leaves out no letter.
 use Rattle.std.specs.Prelude.{◌≡◌, ℕ, ◌≤◌, List, length, map, Option, Some, option_map}
 use Rattle.moos_bridged.specs.Fronts.{letters_mailed}
 use Rattle.moos_client.specs.Calls.{entries_of}

@@ -39,7 +39,7 @@ pub record IsCalled (old new : SeatState) (stamp : ℕ) (call : Call) : Type 0 w
   pub own : entries_of old.number before ≡ old.mine
   pub after : new ≡ seat_after old before (entry_of old.number stamp call)
 
--- the same for a fetch, whose mail is what was mailed to the client since its fetch before
+-- the seat has made a fetch, whose mail is what was mailed to the client since its fetch before
 pub record IsFetched (old new : SeatState) (names : List (List ℕ)) (stamp : ℕ) (mail : List Letter) : Type 0 where
   pub before : History
   pub later : Begins before old.seen

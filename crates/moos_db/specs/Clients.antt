@@ -5,8 +5,9 @@ use Rattle.moos_db.specs.declared.registration.Registration.{Registration}
 use Rattle.moos_post.specs.Delivery.{Inbox, Live, waiting}
 use Rattle.moos_mail.specs.Mailboxes.{in_rising_order, is_one_of, with_number}
 
--- its live registrations in the order in which they were made, the numbers of all posts ever mailed to it in rising order, those that
--- wait for its next fetch, how many more can be mailed without memory, and how many more registrations made
+-- what the database keeps of a client: its live registrations in the order in which they were made, the numbers of all posts ever
+-- mailed to it in rising order, those that wait for its next fetch, how many more can be mailed without memory, and how many more
+-- registrations made
 pub record ClientState : Type 0 where
   pub lives : List Registration
   pub mailed : List ℕ
@@ -41,7 +42,7 @@ pub record IsClient (inbox : Inbox) (client : ClientState) : Type 0 where
   pub mailed : client.mailed ≡ in_rising_order (map (λ one. one.number) inbox.mailed)
   pub waits : client.waits ≡ waiting inbox
 
--- so it is of each client
+-- each client is kept as its inbox says
 abbrev pub AreClients : (ℕ → Inbox) → List ClientState → Type 0
 AreClients inboxes clients = (number : ℕ) (client : ClientState) → slice_get clients number ≡ Some client → IsClient (inboxes number) client
 

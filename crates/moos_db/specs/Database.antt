@@ -14,7 +14,7 @@ pub record Database : Type 0 where
   pub names : List (List ℕ)
   pub history : History
 
--- the database after one entry more
+-- the database after one more entry
 abbrev pub after_entry : Database → Entry → Database
 after_entry database entry = record database { history = database.history ++ entry ∷ [] }
 

@@ -19,7 +19,7 @@ abbrev pub post_in : History → PostPlace → Option Post
 post_in history place =
     option_and_then (λ entry. slice_get (posts_of_entry entry) place.pair) (slice_get history place.entry)
 
--- this place of the batch of this entry
+-- the place of a post: its entry, and its place in the batch of that
 abbrev pub place_at : ℕ → ℕ → PostPlace
 place_at entry pair = record { entry = entry; pair = pair }
 
@@ -46,7 +46,7 @@ pub record AreKept (names : List (List ℕ)) (history : History) (variables : Va
   pub kept : AreKeptAs (inboxes_after names history) (posts_of history) variables clients
   pub noted : AreNoted (map (λ post. post.var) (posts_of history)) variables
 
--- all of that holds, and each entry's letters are its mail
+-- all is kept as `AreKept` says, and each entry's letters are its mail
 pub record IsDb (names : List (List ℕ)) (journal : LogState) (variables : VariablesState) (clients : List ClientState) : Type 0 where
   pub kept : AreKept names journal.entries variables clients
   pub lettered : length journal.letters ≡ length journal.entries

@@ -37,11 +37,11 @@ abbrev pub prepared_of : ℕ → ℕ → List (List ℕ) → Reg → PreparedSta
 prepared_of client made names reg =
     record { live = record { reg = reg; made = made }; subscriptions = heard_through client (record { reg = reg; made = made }) 0 names }
 
--- those of these that are to hear the variable with this number
+-- who is to hear the variable with this number, among these
 abbrev pub heard_at_number : ℕ → List Heard → List SubscriptionState
 heard_at_number number all = map (λ one. one.1) (filter (λ one. one.0 == number) all)
 
--- the live registrations after this one more, which withdraws one with the same patterns
+-- the live registrations with this one added, which withdraws one with the same patterns
 abbrev pub with_prepared : List Live → PreparedState → List Live
 with_prepared lives one = with_reg one.live.made lives one.live.reg
 
@@ -53,7 +53,7 @@ latest_at variables number = option_and_then (λ variable. variable.latest) (sli
 abbrev pub latest_heard : List VariableState → List Heard → List ℕ
 latest_heard variables all = flat_map (λ one. option_to_list (latest_at variables one.0)) all
 
--- the same of the variables that are to be heard through each of these registrations
+-- the numbers of the latest posts of the variables that are to be heard through each of these registrations
 abbrev pub latest_prepared : List VariableState → List PreparedState → List ℕ
 latest_prepared variables all = flat_map (λ one. latest_heard variables one.subscriptions) all
 
@@ -62,7 +62,7 @@ pub record AreEachAt {X : Type 0} (R : ℕ → X → X → Type 0) (before after
   pub each : length after ≡ length before
   pub same : (number : ℕ) (one other : X) → slice_get before number ≡ Some one → slice_get after number ≡ Some other → R number one other
 
--- the same, whatever the number of the place
+-- each of these is related to the one at its place before, whatever the number of the place
 abbrev pub AreEach : {X : Type 0} → (X → X → Type 0) → List X → List X → Type 0
 AreEach R before after = AreEachAt (λ number. R) before after
 
@@ -81,39 +81,39 @@ pub record IsRoomier (one other : VariableState) : Type 0 where
   pub same : other ≡ record one { room = other.room }
   pub room : one.room ≤ other.room
 
--- each variable is so, and their numbers and those noted of the posts are the same
+-- each variable is the same but for room, of which there is no less, and their numbers and those noted of the posts are the same
 pub record AreRoomier (before after : VariablesState) : Type 0 where
   pub all : AreEach IsRoomier before.all after.all
   pub numbers : after.numbers ≡ before.numbers
   pub noted : after.noted ≡ before.noted
 
--- the variable is the same but for who hears it, and room was used for no more than so many
+-- the variable is the same but for who hears it, and at most `used` places of its room were used
 pub record IsStill (used : ℕ) (one other : VariableState) : Type 0 where
   pub same : other ≡ record one { subscriptions = other.subscriptions; room = other.room }
   pub room : one.room ≤ other.room + used
 
--- room for registrations of the client was used for no more than so many, and none for letters
+-- at most `used` places of the client's room for registrations were used, and none of its room for letters
 pub record KeepsRoom (used : ℕ) (one other : ClientState) : Type 0 where
   pub room : one.room ≤ other.room + used
   pub spare : one.spare ≤ other.spare
 
--- the variables and the clients are so, and the variables' numbers are the same
+-- each variable is as `IsStill` says and each client as `KeepsRoom` says, and the variables' numbers are the same
 pub record AreStill (used : ℕ) (before after : VariablesState) (states others : List ClientState) : Type 0 where
   pub variables : AreEach (IsStill used) before.all after.all
   pub clients : AreEach (KeepsRoom used) states others
   pub numbers : after.numbers ≡ before.numbers
 
--- there is room for so many with each variable that the pattern matches
+-- each variable that the pattern matches has room for `room` who hear it
 abbrev pub HasRoomThrough : ℕ → List ℕ → List VariableState → Type 0
 HasRoomThrough room pattern variables =
     (number : ℕ) (variable : VariableState) → slice_get variables number ≡ Some variable → matches pattern variable.name ≡ true → room ≤ variable.room
 
--- the registration of the client is prepared, and there is room for so many with each variable that it matches
+-- the registration of the client is prepared, and each variable that it matches has room for `more` who hear it
 pub record IsPrepared (client more : ℕ) (variables : List VariableState) (one : PreparedState) : Type 0 where
   pub subscriptions : one.subscriptions ≡ heard_through client one.live 0 (variable_names variables)
   pub room : HasRoomThrough more one.live.reg.var variables
 
--- so many entries were before, and the client's last fetch was one of them, if it fetched
+-- `made` entries were before, and the client's last fetch was one of them, if it fetched
 abbrev pub StandsAt : ℕ → Inbox → Type 0
 StandsAt made inbox = (inbox.entries ≡ made) × (inbox.fetched ≤ made)
 

@@ -18,7 +18,7 @@ pub record SubscriptionState : Type 0 where
   pub made : ℕ
   pub last : Option ℕ
 
--- a variable, the number of its latest post, if there is one, who hears it, and how many more can without memory
+-- a variable, the number of its latest post, if there is one, who hears it, and how many more can be added to those without memory
 pub record VariableState : Type 0 where
   pub name : List ℕ
   pub latest : Option ℕ
@@ -33,7 +33,7 @@ subscription_of client var live = record { client = client; reg = live.reg; made
 abbrev pub subscriptions_of : ℕ → List ℕ → List Live → List SubscriptionState
 subscriptions_of client var lives = map (subscription_of client var) (filter (λ live. matches live.reg.var var) lives)
 
--- those of these that are the client's, in their order
+-- who of these is the client, in their order
 abbrev pub of_client : ℕ → List SubscriptionState → List SubscriptionState
 of_client client subscriptions = filter (λ subscription. subscription.client == client) subscriptions
 
@@ -45,7 +45,7 @@ hears_due stamp source subscription = matches subscription.reg.source source && 
 abbrev pub after_hearing : ℕ → List ℕ → SubscriptionState → SubscriptionState
 after_hearing stamp source subscription = if hears_due stamp source subscription then record subscription { last = Some stamp } else subscription
 
--- it is of the client and was made at this entry, and selects a post from the source
+-- who hears is the client, by a registration that was made at this entry and selects a post from the source
 abbrev pub is_new_at : ℕ → ℕ → List ℕ → SubscriptionState → Bool
 is_new_at client made source subscription = subscription.client == client && subscription.made == made && matches subscription.reg.source source
 
@@ -53,7 +53,7 @@ is_new_at client made source subscription = subscription.client == client && sub
 abbrev pub caught_at : ℕ → ℕ → ℕ → List ℕ → SubscriptionState → SubscriptionState
 caught_at client made stamp source subscription = if is_new_at client made source subscription then record subscription { last = Some stamp } else subscription
 
--- it is the client's registration with these patterns
+-- who hears is the client, by its registration with these patterns
 abbrev pub is_registration : ℕ → List ℕ → List ℕ → SubscriptionState → Bool
 is_registration client var source subscription = subscription.client == client && bytes_eq subscription.reg.var var && bytes_eq subscription.reg.source source
 
@@ -80,7 +80,7 @@ pub record IsHeardBy (clients : ℕ) (inboxes : ℕ → Inbox) (variable : Varia
   pub each : (client : ℕ) → client < clients → of_client client variable.subscriptions ≡ subscriptions_of client variable.name (inboxes client).lives
   pub within : All (λ subscription. subscription.client < clients) variable.subscriptions
 
--- each of these hears as one of so many clients
+-- each who hears one of these variables is one of the first `clients` clients
 abbrev pub HearBelow : ℕ → List VariableState → Type 0
 HearBelow clients variables = All (λ variable. All (λ subscription. subscription.client < clients) variable.subscriptions) variables
 
@@ -110,7 +110,7 @@ HasKnown numbers live = (var : List ℕ) → number_of var numbers ≡ None → 
 abbrev pub AreKnown : ℕ → (ℕ → Inbox) → List Row → Type 0
 AreKnown clients inboxes numbers = (client : ℕ) → client < clients → All (HasKnown numbers) (inboxes client).lives
 
--- its latest post is that of the variable among these
+-- a variable's latest post is that of the variable among these
 abbrev pub HasLatest : List Post → VariableState → Type 0
 HasLatest posts variable = variable.latest ≡ number_of variable.name (rows_of posts)
 
@@ -120,7 +120,7 @@ pub record AreHeard (clients : ℕ) (inboxes : ℕ → Inbox) (posts : List Post
   pub latest : All (HasLatest posts) variables.all
   pub known : AreKnown clients inboxes variables.numbers
 
--- the variables with this one more, which the clients hear by their registrations, through which nothing of it came
+-- the variables with this one added, which the clients hear by their registrations, through which nothing of it came
 pub record IsAdded (clients : List ClientState) (var : List ℕ) (before after : VariablesState) : Type 0 where
   pub subscriptions : List SubscriptionState
   pub room : ℕ
@@ -139,11 +139,11 @@ pub record AreAlike (before after : List ClientState) : Type 0 where
   pub each : length after ≡ length before
   pub same : (number : ℕ) (one other : ClientState) → slice_get before number ≡ Some one → slice_get after number ≡ Some other → other ≡ record one { spare = other.spare }
 
--- so many more can be mailed to the client without memory
+-- `more` posts can be mailed without memory to the client who hears
 abbrev pub HasRoom : List ClientState → ℕ → SubscriptionState → Type 0
 HasRoom clients more subscription = (client : ClientState) → slice_get clients subscription.client ≡ Some client → more ≤ client.spare
 
--- so they can to each who hears one of the posts from this number on
+-- `more` posts can be mailed without memory to each client who hears a variable of one of the posts from this number on
 abbrev pub HaveLetterRoom : List ClientState → VariablesState → ℕ → ℕ → Type 0
 HaveLetterRoom clients variables from more = (post number : ℕ) (variable : VariableState) → from ≤ post → slice_get variables.noted post ≡ Some number →
     slice_get variables.all number ≡ Some variable → All (HasRoom clients more) variable.subscriptions
@@ -152,7 +152,8 @@ HaveLetterRoom clients variables from more = (post number : ℕ) (variable : Var
 abbrev pub mailed_if : Bool → ℕ → ClientState → ClientState
 mailed_if mails number client = if mails then mailed_once number client else client
 
--- the clients after the post with this number, of this stamp and from the source, which is mailed to each at one of whose subscriptions it is due
+-- the clients after the post with this number, of this stamp and from the source, which is mailed to each at one of whose
+-- subscriptions it is due
 pub record AreMailed (number stamp : ℕ) (source : List ℕ) (subscriptions : List SubscriptionState) (before after : List ClientState) : Type 0 where
   pub each : length after ≡ length before
   pub mail : (client : ℕ) (one other : ClientState) → slice_get before client ≡ Some one → slice_get after client ≡ Some other →

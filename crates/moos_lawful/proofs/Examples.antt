@@ -6,7 +6,7 @@ use Rattle.moos_post.specs.declared.entry.Entry.{Entry}
 use Rattle.moos_post.specs.declared.value.Pair.{Pair}
 use Rattle.moos_post.specs.declared.value.Value.TheVariants.{Num}
 use Rattle.moos_client.specs.Hearing.{Mailed}
-use Rattle.moos_lawful.specs.Schedules.{due_in, rises, Schedule}
+use Rattle.moos_lawful.specs.Schedules.{due_in, never_falls, Schedule}
 use Rattle.moos_lawful.specs.Answering.{Answerer, moment_in, schedule_of}
 use Rattle.moos_client.specs.Calls.{entry_of}
 use Rattle.script_reader.specs.declared.script.Order.TheVariants.{Stamp, Race}
@@ -38,14 +38,14 @@ answer_left : due_in schedule 1 (line ∷ entry_of 1 0 Fetch ∷ []) ≡ entry_o
 answer_left = refl
 
 -- in order Stamp the second of two that answer isn't before the first
-second_first : rises 0 (map (moment_in Stamp 1 2) (line ∷ entry_of 2 0 Fetch ∷ entry_of 1 0 Fetch ∷ [])) ≡ false
+second_first : never_falls 0 (map (moment_in Stamp 1 2) (line ∷ entry_of 2 0 Fetch ∷ entry_of 1 0 Fetch ∷ [])) ≡ false
 second_first = refl
 
-in_turn : rises 0 (map (moment_in Stamp 1 2) (line ∷ entry_of 1 0 Fetch ∷ entry_of 2 0 Fetch ∷ [])) ≡ true
+in_turn : never_falls 0 (map (moment_in Stamp 1 2) (line ∷ entry_of 1 0 Fetch ∷ entry_of 2 0 Fetch ∷ [])) ≡ true
 in_turn = refl
 
 -- in order Race it may be
-in_race : rises 0 (map (moment_in Race 1 2) (line ∷ entry_of 2 0 Fetch ∷ entry_of 1 0 Fetch ∷ [])) ≡ true
+in_race : never_falls 0 (map (moment_in Race 1 2) (line ∷ entry_of 2 0 Fetch ∷ entry_of 1 0 Fetch ∷ [])) ≡ true
 in_race = refl
 
 -- an answer to mail that comes later is none: it is over what was heard by then

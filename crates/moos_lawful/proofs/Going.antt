@@ -12,7 +12,7 @@ use Rattle.moos_post.specs.Delivery.{is_fetch}
 use Rattle.moos_post.specs.History.{History}
 use Rattle.moos_client.specs.Calls.{entries_of}
 use Rattle.moos_client.specs.Hearing.{heard_in}
-use Rattle.moos_lawful.specs.Schedules.{Completion, due_in, entries_below, IsLawfulFor, IsLawfulSoFar, IsPlayable, moments_with, rises, Schedule}
+use Rattle.moos_lawful.specs.Schedules.{Completion, due_in, entries_below, IsLawfulFor, IsLawfulSoFar, IsPlayable, moments_with, never_falls, Schedule}
 use Rattle.moos_client.proofs.Hearing.{heard_append, heard_many}
 use Rattle.moos_lawful.proofs.Rising.{between_rises, end_rises, front_rises, head_rises, lower, total, total_least, total_less}
 
@@ -37,7 +37,7 @@ module _ {A : Type 0} (schedule : Schedule A) (may : IsPlayable schedule)
     -- ---- the start
 
     -- nothing but the start
-    pub begun : ((n : ℕ) → n < known → rises 0 (map schedule.moment (schedule.due n [])) ≡ true) → IsLawfulSoFar schedule schedule.start
+    pub begun : ((n : ℕ) → n < known → never_falls 0 (map schedule.moment (schedule.due n [])) ≡ true) → IsLawfulSoFar schedule schedule.start
     begun sorted = record {
       rest = [];
       opened = sym (append-nil schedule.start);
@@ -98,7 +98,7 @@ module _ {A : Type 0} (schedule : Schedule A) (may : IsPlayable schedule)
 
     -- nothing that is left is due before this moment
     abbrev pub NoneBefore : ℕ → (ℕ → List Entry) → Type 0
-    NoneBefore moment left = (n : ℕ) → n < known → rises moment (map schedule.moment (left n)) ≡ true
+    NoneBefore moment left = (n : ℕ) → n < known → never_falls moment (map schedule.moment (left n)) ≡ true
 
     -- THE STEP: a known client makes the next of the entries that are left for it, where none that is left is due before it.
     pub next_on : (history : History) (so : IsLawfulSoFar schedule history) (n : ℕ) (entry : Entry) (left : List Entry) → n < known → so.left n ≡ entry ∷ left → NoneBefore (schedule.moment entry) so.left
@@ -158,25 +158,25 @@ module _ {A : Type 0} (schedule : Schedule A) (may : IsPlayable schedule)
         some : List ℕ
         some = map schedule.moment (entries_below known so.rest)
 
-        whole : rises 0 (some ++ schedule.moment entry ∷ map schedule.moment left) ≡ true
-        whole = subst (λ all. rises 0 all ≡ true) (map-append schedule.moment (entries_below known so.rest) (entry ∷ left)) (subst (λ left. rises 0 (moments_with schedule so.rest left) ≡ true) is (so.moments n below))
+        whole : never_falls 0 (some ++ schedule.moment entry ∷ map schedule.moment left) ≡ true
+        whole = subst (λ all. never_falls 0 all ≡ true) (map-append schedule.moment (entries_below known so.rest) (entry ∷ left)) (subst (λ left. never_falls 0 (moments_with schedule so.rest left) ≡ true) is (so.moments n below))
 
-        front : rises 0 (some ++ schedule.moment entry ∷ []) ≡ true
-        front = front_rises 0 (some ++ schedule.moment entry ∷ []) (map schedule.moment left) (subst (λ all. rises 0 all ≡ true) (sym (append_assoc some (schedule.moment entry ∷ []) (map schedule.moment left))) whole)
+        front : never_falls 0 (some ++ schedule.moment entry ∷ []) ≡ true
+        front = front_rises 0 (some ++ schedule.moment entry ∷ []) (map schedule.moment left) (subst (λ all. never_falls 0 all ≡ true) (sym (append_assoc some (schedule.moment entry ∷ []) (map schedule.moment left))) whole)
 
         -- with something behind it
-        behind : (later : List Entry) → rises (schedule.moment entry) (map schedule.moment later) ≡ true → rises 0 (moments_with schedule (so.rest ++ entry ∷ []) later) ≡ true
+        behind : (later : List Entry) → never_falls (schedule.moment entry) (map schedule.moment later) ≡ true → never_falls 0 (moments_with schedule (so.rest ++ entry ∷ []) later) ≡ true
         behind later so' =
-            subst (λ all. rises 0 all ≡ true)
+            subst (λ all. never_falls 0 all ≡ true)
             (sym (map-append schedule.moment (entries_below known (so.rest ++ entry ∷ [])) later ∙ ap (λ front. front ++ map schedule.moment later) begins ∙ append_assoc some (schedule.moment entry ∷ []) (map schedule.moment later)))
             (between_rises 0 (schedule.moment entry) some (map schedule.moment later) front so')
 
-        timed : (m : ℕ) → m < known → ((m == n) ≡ true) ⊎ ((m == n) ≡ false) → rises 0 (moments_with schedule (so.rest ++ entry ∷ []) (remains m)) ≡ true
+        timed : (m : ℕ) → m < known → ((m == n) ≡ true) ⊎ ((m == n) ≡ false) → never_falls 0 (moments_with schedule (so.rest ++ entry ∷ []) (remains m)) ≡ true
         timed m under (inl e) =
-            let tail = and_parts (nat_le (schedule.moment entry) (schedule.moment entry)) (rises (schedule.moment entry) (map schedule.moment left)) (subst (λ left. rises (schedule.moment entry) (map schedule.moment left) ≡ true) is (first n below)) in
-            subst (λ b. rises 0 (moments_with schedule (so.rest ++ entry ∷ []) (cond b more.more (so.left m))) ≡ true) (sym e)
-            (behind more.more (subst (λ all. rises (schedule.moment entry) all ≡ true) (sym more.same) tail.1))
-        timed m under (inr e) = subst (λ b. rises 0 (moments_with schedule (so.rest ++ entry ∷ []) (cond b more.more (so.left m))) ≡ true) (sym e) (behind (so.left m) (first m under))
+            let tail = and_parts (nat_le (schedule.moment entry) (schedule.moment entry)) (never_falls (schedule.moment entry) (map schedule.moment left)) (subst (λ left. never_falls (schedule.moment entry) (map schedule.moment left) ≡ true) is (first n below)) in
+            subst (λ b. never_falls 0 (moments_with schedule (so.rest ++ entry ∷ []) (cond b more.more (so.left m))) ≡ true) (sym e)
+            (behind more.more (subst (λ all. never_falls (schedule.moment entry) all ≡ true) (sym more.same) tail.1))
+        timed m under (inr e) = subst (λ b. never_falls 0 (moments_with schedule (so.rest ++ entry ∷ []) (cond b more.more (so.left m))) ≡ true) (sym e) (behind (so.left m) (first m under))
 
     -- any entry of a further client may come
     pub further_on : (history : History) (so : IsLawfulSoFar schedule history) (entry : Entry) → known ≤ entry.client → entry.client < schedule.names → (on : IsLawfulSoFar schedule (history ++ entry ∷ [])) × (on.left ≡ so.left)
@@ -186,7 +186,7 @@ module _ {A : Type 0} (schedule : Schedule A) (may : IsPlayable schedule)
         opened = ap (λ front. front ++ entry ∷ []) so.opened ∙ append_assoc schedule.start so.rest (entry ∷ []);
         left = so.left;
         own = λ m under. other_hears m so.rest entry (apart m under) ∙ so.own m under ∙ ap (λ own. own ++ so.left m) (sym (other_more m so.rest entry (apart m under)));
-        moments = λ m under. subst (λ some. rises 0 (map schedule.moment (some ++ so.left m)) ≡ true) (sym same) (so.moments m under);
+        moments = λ m under. subst (λ some. never_falls 0 (map schedule.moment (some ++ so.left m)) ≡ true) (sym same) (so.moments m under);
         named = list_all-append (λ entry. nat_lt entry.client schedule.names) so.rest (entry ∷ [])
             ∙ and_from (list_all (λ entry. nat_lt entry.client schedule.names) so.rest) (nat_lt entry.client schedule.names && true) so.named (and_from (nat_lt entry.client schedule.names) true named refl);
       },
@@ -220,17 +220,17 @@ module _ {A : Type 0} (schedule : Schedule A) (may : IsPlayable schedule)
         nobody : (xs : History) → known ≡ 0 → entries_below known xs ≡ []
         nobody xs none = ap (λ k. entries_below k xs) none ∙ none_below xs
 
-        moments : (nat_lt 0 known ≡ true) ⊎ (nat_lt 0 known ≡ false) → rises 0 (moments_with schedule so.rest []) ≡ true
-        moments (inl e) = let some : 0 < known = grind (arith, nat_tests, e) in subst (λ left. rises 0 (moments_with schedule so.rest left) ≡ true) (none 0 some) (so.moments 0 some)
-        moments (inr e) = let zero : known ≡ 0 = grind (arith, nat_tests, e) in subst (λ some. rises 0 (map schedule.moment (some ++ [])) ≡ true) (sym (nobody so.rest zero)) refl
+        moments : (nat_lt 0 known ≡ true) ⊎ (nat_lt 0 known ≡ false) → never_falls 0 (moments_with schedule so.rest []) ≡ true
+        moments (inl e) = let some : 0 < known = grind (arith, nat_tests, e) in subst (λ left. never_falls 0 (moments_with schedule so.rest left) ≡ true) (none 0 some) (so.moments 0 some)
+        moments (inr e) = let zero : known ≡ 0 = grind (arith, nat_tests, e) in subst (λ some. never_falls 0 (map schedule.moment (some ++ [])) ≡ true) (sym (nobody so.rest zero)) refl
 
     -- ---- what comes next
 
     -- each client's left entries have moments that rise
-    left_rises : (history : History) (so : IsLawfulSoFar schedule history) (n : ℕ) → n < known → rises 0 (map schedule.moment (so.left n)) ≡ true
+    left_rises : (history : History) (so : IsLawfulSoFar schedule history) (n : ℕ) → n < known → never_falls 0 (map schedule.moment (so.left n)) ≡ true
     left_rises history so n below =
         end_rises 0 (map schedule.moment (entries_below known so.rest)) (map schedule.moment (so.left n))
-        (subst (λ all. rises 0 all ≡ true) (map-append schedule.moment (entries_below known so.rest) (so.left n)) (so.moments n below))
+        (subst (λ all. never_falls 0 all ≡ true) (map-append schedule.moment (entries_below known so.rest) (so.left n)) (so.moments n below))
 
     -- Of the clients below a number none has anything left, or one has an entry left that none of theirs is due before.
     record Next (left : ℕ → List Entry) (under : ℕ) : Type 0 where
@@ -239,9 +239,9 @@ module _ {A : Type 0} (schedule : Schedule A) (may : IsPlayable schedule)
       pub later : List Entry
       pub below : client < under
       pub is : left client ≡ entry ∷ later
-      pub first : (m : ℕ) → m < under → rises (schedule.moment entry) (map schedule.moment (left m)) ≡ true
+      pub first : (m : ℕ) → m < under → never_falls (schedule.moment entry) (map schedule.moment (left m)) ≡ true
 
-    choose : (left : ℕ → List Entry) (under : ℕ) → ((n : ℕ) → n < under → rises 0 (map schedule.moment (left n)) ≡ true) → ((n : ℕ) → n < under → left n ≡ []) ⊎ Next left under
+    choose : (left : ℕ → List Entry) (under : ℕ) → ((n : ℕ) → n < under → never_falls 0 (map schedule.moment (left n)) ≡ true) → ((n : ℕ) → n < under → left n ≡ []) ⊎ Next left under
     choose left zero sorted = inl (λ n below. absurd (omega (arith, below)))
     choose left (suc k) sorted = by (choose left k (λ n below. sorted n (omega (arith, below)))) (left k) refl
       where
@@ -260,9 +260,9 @@ module _ {A : Type 0} (schedule : Schedule A) (may : IsPlayable schedule)
           later = later;
           below = omega arith;
           is = is;
-          first = λ m below. to_last {P = λ m. rises (schedule.moment entry) (map schedule.moment (left m)) ≡ true} (λ m less. subst (λ left. rises (schedule.moment entry) (map schedule.moment left) ≡ true) (sym (none m less)) refl)
-              (subst (λ left. rises (schedule.moment entry) (map schedule.moment left) ≡ true) (sym is)
-              (head_rises (schedule.moment entry) (schedule.moment entry) (map schedule.moment later) (subst (λ left. rises 0 (map schedule.moment left) ≡ true) is (sorted k (omega arith))) (omega arith)))
+          first = λ m below. to_last {P = λ m. never_falls (schedule.moment entry) (map schedule.moment (left m)) ≡ true} (λ m less. subst (λ left. never_falls (schedule.moment entry) (map schedule.moment left) ≡ true) (sym (none m less)) refl)
+              (subst (λ left. never_falls (schedule.moment entry) (map schedule.moment left) ≡ true) (sym is)
+              (head_rises (schedule.moment entry) (schedule.moment entry) (map schedule.moment later) (subst (λ left. never_falls 0 (map schedule.moment left) ≡ true) is (sorted k (omega arith))) (omega arith)))
               m below (either (m == k));
         })
         by (inr next) [] is = inr (record {
@@ -271,12 +271,12 @@ module _ {A : Type 0} (schedule : Schedule A) (may : IsPlayable schedule)
           later = next.later;
           below = omega (arith, next.below);
           is = next.is;
-          first = λ m below. to_last {P = λ m. rises (schedule.moment next.entry) (map schedule.moment (left m)) ≡ true} next.first (subst (λ left. rises (schedule.moment next.entry) (map schedule.moment left) ≡ true) (sym is) refl) m below (either (m == k));
+          first = λ m below. to_last {P = λ m. never_falls (schedule.moment next.entry) (map schedule.moment (left m)) ≡ true} next.first (subst (λ left. never_falls (schedule.moment next.entry) (map schedule.moment left) ≡ true) (sym is) refl) m below (either (m == k));
         })
         by (inr next) (other ∷ others) is = at (either (nat_le (schedule.moment next.entry) (schedule.moment other)))
           where
-            mine : rises 0 (schedule.moment other ∷ map schedule.moment others) ≡ true
-            mine = subst (λ left. rises 0 (map schedule.moment left) ≡ true) is (sorted k (omega arith))
+            mine : never_falls 0 (schedule.moment other ∷ map schedule.moment others) ≡ true
+            mine = subst (λ left. never_falls 0 (map schedule.moment left) ≡ true) is (sorted k (omega arith))
 
             at : (nat_le (schedule.moment next.entry) (schedule.moment other) ≡ true) ⊎ (nat_le (schedule.moment next.entry) (schedule.moment other) ≡ false) → ((n : ℕ) → n < suc k → left n ≡ []) ⊎ Next left (suc k)
             at (inl e) = inr (record {
@@ -285,8 +285,8 @@ module _ {A : Type 0} (schedule : Schedule A) (may : IsPlayable schedule)
               later = next.later;
               below = omega (arith, next.below);
               is = next.is;
-              first = λ m below. to_last {P = λ m. rises (schedule.moment next.entry) (map schedule.moment (left m)) ≡ true} next.first
-                  (subst (λ left. rises (schedule.moment next.entry) (map schedule.moment left) ≡ true) (sym is) (head_rises (schedule.moment next.entry) (schedule.moment other) (map schedule.moment others) mine (grind (arith, nat_tests, e)))) m below (either (m == k));
+              first = λ m below. to_last {P = λ m. never_falls (schedule.moment next.entry) (map schedule.moment (left m)) ≡ true} next.first
+                  (subst (λ left. never_falls (schedule.moment next.entry) (map schedule.moment left) ≡ true) (sym is) (head_rises (schedule.moment next.entry) (schedule.moment other) (map schedule.moment others) mine (grind (arith, nat_tests, e)))) m below (either (m == k));
             })
             at (inr e) = inr (record {
               client = k;
@@ -294,9 +294,9 @@ module _ {A : Type 0} (schedule : Schedule A) (may : IsPlayable schedule)
               later = others;
               below = omega arith;
               is = is;
-              first = λ m below. to_last {P = λ m. rises (schedule.moment other) (map schedule.moment (left m)) ≡ true}
+              first = λ m below. to_last {P = λ m. never_falls (schedule.moment other) (map schedule.moment (left m)) ≡ true}
                   (λ m less. lower (schedule.moment other) (schedule.moment next.entry) (map schedule.moment (left m)) (grind (arith, nat_tests, e)) (next.first m less))
-                  (subst (λ left. rises (schedule.moment other) (map schedule.moment left) ≡ true) (sym is) (head_rises (schedule.moment other) (schedule.moment other) (map schedule.moment others) mine (omega arith))) m below (either (m == k));
+                  (subst (λ left. never_falls (schedule.moment other) (map schedule.moment left) ≡ true) (sym is) (head_rises (schedule.moment other) (schedule.moment other) (map schedule.moment others) mine (omega arith))) m below (either (m == k));
             })
 
     -- ---- the completion

@@ -12,25 +12,25 @@ use Rattle.moos_post.specs.declared.entry.Entry.{Entry}
 use Rattle.moos_post.specs.History.{History}
 use Rattle.moos_client.specs.Calls.{entries_of}
 use Rattle.moos_client.specs.Hearing.{heard_in}
-use Rattle.moos_lawful.specs.Schedules.{due_in, entries_below, IsLawfulSoFar, moments_with, rises, Schedule}
+use Rattle.moos_lawful.specs.Schedules.{due_in, entries_below, IsLawfulSoFar, moments_with, never_falls, Schedule}
 use Rattle.moos_client.proofs.Hearing.{heard_append, heard_none}
 use Rattle.moos_lawful.proofs.Rising.{lower, true_le}
 
 -- numbers behind others, from one that may stand behind these
-two_rises : (low mid : ℕ) (some later : List ℕ) → rises low (some ++ mid ∷ []) ≡ true → rises mid later ≡ true → rises low (some ++ later) ≡ true
+two_rises : (low mid : ℕ) (some later : List ℕ) → never_falls low (some ++ mid ∷ []) ≡ true → never_falls mid later ≡ true → never_falls low (some ++ later) ≡ true
 two_rises low mid [] later h so = lower low mid later (true_le low mid (and_parts (nat_le low mid) true h).0) so
 two_rises low mid (n ∷ some) later h so =
-    let parts = and_parts (nat_le low n) (rises n (some ++ mid ∷ [])) h in
-    and_from (nat_le low n) (rises n (some ++ later)) parts.0 (two_rises n mid some later parts.1 so)
+    let parts = and_parts (nat_le low n) (never_falls n (some ++ mid ∷ [])) h in
+    and_from (nat_le low n) (never_falls n (some ++ later)) parts.0 (two_rises n mid some later parts.1 so)
 
 -- numbers that are all one, and those that may stand behind it
-pub one_rises : (moment : ℕ) (one later : List ℕ) → list_all (λ n. n == moment) one ≡ true → rises moment later ≡ true → rises moment (one ++ later) ≡ true
+pub one_rises : (moment : ℕ) (one later : List ℕ) → list_all (λ n. n == moment) one ≡ true → never_falls moment later ≡ true → never_falls moment (one ++ later) ≡ true
 one_rises moment [] later all so = so
 one_rises moment (n ∷ one) later all so =
     let tests = and_parts (n == moment) (list_all (λ n. n == moment) one) all in
     let here = tests.0 in
     let same : n ≡ moment = grind (arith, nat_tests, here) in
-    and_from (nat_le moment n) (rises n (one ++ later)) (grind (arith, nat_tests, same)) (subst (λ n. rises n (one ++ later) ≡ true) (sym same) (one_rises moment one later tests.1 so))
+    and_from (nat_le moment n) (never_falls n (one ++ later)) (grind (arith, nat_tests, same)) (subst (λ n. never_falls n (one ++ later) ≡ true) (sym same) (one_rises moment one later tests.1 so))
 
 pub either : (b : Bool) → (b ≡ true) ⊎ (b ≡ false)
 either true = inl refl
@@ -63,7 +63,7 @@ module _ {A : Type 0} (schedule : Schedule A)
     -- A PART THAT WAS MADE IN WHATEVER WAY: with it each known client has done the first of what it is due to do, the moments so far aren't above
     -- a bound, and from that bound on those of the part don't fall, nor with what is then left behind them.
     pub part_with : (history later : History) (so : IsLawfulSoFar schedule history) (bound : ℕ) (left : ℕ → List Entry) → ((n : ℕ) → n < schedule.known → due_in schedule n (so.rest ++ later) ≡ entries_of n (so.rest ++ later) ++ left n)
-        → rises 0 (map schedule.moment (entries_below schedule.known so.rest) ++ bound ∷ []) ≡ true → ((n : ℕ) → n < schedule.known → rises bound (map schedule.moment (entries_below schedule.known later) ++ map schedule.moment (left n)) ≡ true)
+        → never_falls 0 (map schedule.moment (entries_below schedule.known so.rest) ++ bound ∷ []) ≡ true → ((n : ℕ) → n < schedule.known → never_falls bound (map schedule.moment (entries_below schedule.known later) ++ map schedule.moment (left n)) ≡ true)
         → list_all (λ entry. nat_lt entry.client schedule.names) later ≡ true → (on : IsLawfulSoFar schedule (history ++ later)) × (on.left ≡ left)
     part_with history later so bound left own before behind named = (
       record {
@@ -71,7 +71,7 @@ module _ {A : Type 0} (schedule : Schedule A)
         opened = ap (λ front. front ++ later) so.opened ∙ append_assoc schedule.start so.rest later;
         left = left;
         own = own;
-        moments = λ n below. subst (λ all. rises 0 all ≡ true) (sym (cut n))
+        moments = λ n below. subst (λ all. never_falls 0 all ≡ true) (sym (cut n))
             (two_rises 0 bound (map schedule.moment (entries_below schedule.known so.rest)) (map schedule.moment (entries_below schedule.known later) ++ map schedule.moment (left n)) before (behind n below));
         named = list_all-append (λ entry. nat_lt entry.client schedule.names) so.rest later
             ∙ and_from (list_all (λ entry. nat_lt entry.client schedule.names) so.rest) (list_all (λ entry. nat_lt entry.client schedule.names) later) so.named named;
@@ -88,7 +88,7 @@ module _ {A : Type 0} (schedule : Schedule A)
 
     -- A PART OF ONE MOMENT, as lines that threads play beside each other, or all of a race
     pub part_on : (history later : History) (so : IsLawfulSoFar schedule history) (moment : ℕ) (left : ℕ → List Entry) → ((n : ℕ) → n < schedule.known → due_in schedule n (so.rest ++ later) ≡ entries_of n (so.rest ++ later) ++ left n)
-        → rises 0 (map schedule.moment (entries_below schedule.known so.rest) ++ moment ∷ []) ≡ true → list_all (λ n. n == moment) (map schedule.moment (entries_below schedule.known later)) ≡ true → ((n : ℕ) → n < schedule.known → rises moment (map schedule.moment (left n)) ≡ true)
+        → never_falls 0 (map schedule.moment (entries_below schedule.known so.rest) ++ moment ∷ []) ≡ true → list_all (λ n. n == moment) (map schedule.moment (entries_below schedule.known later)) ≡ true → ((n : ℕ) → n < schedule.known → never_falls moment (map schedule.moment (left n)) ≡ true)
         → list_all (λ entry. nat_lt entry.client schedule.names) later ≡ true → (on : IsLawfulSoFar schedule (history ++ later)) × (on.left ≡ left)
     part_on history later so moment left own before one behind named =
         part_with history later so moment left own before (λ n below. one_rises moment (map schedule.moment (entries_below schedule.known later)) (map schedule.moment (left n)) one (behind n below)) named

@@ -2,7 +2,7 @@
 use Rattle.std.proofs.Common.{◌≡◌, ◌≢◌, ℕ, zero, suc, ◌+◌, ◌<◌, ◌≤◌, ◌==◌, Bool, true, false, List, [], ◌∷◌, ◌++◌, nat_le, refl, sym, ap, subst, arith}
 use Rattle.std.proofs.lemmas.Bool.{and_from, and_parts}
 use Rattle.std.proofs.lemmas.Bool.Decides.{nat_tests}
-use Rattle.moos_lawful.specs.Schedules.{rises}
+use Rattle.moos_lawful.specs.Schedules.{never_falls}
 
 -- ---- numbers that rise
 
@@ -12,38 +12,38 @@ le_true a b h = grind (arith, nat_tests)
 pub true_le : (a b : ℕ) → nat_le a b ≡ true → a ≤ b
 true_le a b h = grind (arith, nat_tests)
 
-pub lower : (low mid : ℕ) (ns : List ℕ) → low ≤ mid → rises mid ns ≡ true → rises low ns ≡ true
+pub lower : (low mid : ℕ) (ns : List ℕ) → low ≤ mid → never_falls mid ns ≡ true → never_falls low ns ≡ true
 lower low mid [] less h = refl
 lower low mid (n ∷ ns) less h =
-    let parts = and_parts (nat_le mid n) (rises n ns) h in
-    and_from (nat_le low n) (rises n ns) (le_true low n (omega (arith, less, true_le mid n parts.0))) parts.1
+    let parts = and_parts (nat_le mid n) (never_falls n ns) h in
+    and_from (nat_le low n) (never_falls n ns) (le_true low n (omega (arith, less, true_le mid n parts.0))) parts.1
 
-pub front_rises : (low : ℕ) (ns more : List ℕ) → rises low (ns ++ more) ≡ true → rises low ns ≡ true
+pub front_rises : (low : ℕ) (ns more : List ℕ) → never_falls low (ns ++ more) ≡ true → never_falls low ns ≡ true
 front_rises low [] more h = refl
 front_rises low (n ∷ ns) more h =
-    let parts = and_parts (nat_le low n) (rises n (ns ++ more)) h in
-    and_from (nat_le low n) (rises n ns) parts.0 (front_rises n ns more parts.1)
+    let parts = and_parts (nat_le low n) (never_falls n (ns ++ more)) h in
+    and_from (nat_le low n) (never_falls n ns) parts.0 (front_rises n ns more parts.1)
 
-pub end_rises : (low : ℕ) (ns more : List ℕ) → rises low (ns ++ more) ≡ true → rises 0 more ≡ true
+pub end_rises : (low : ℕ) (ns more : List ℕ) → never_falls low (ns ++ more) ≡ true → never_falls 0 more ≡ true
 end_rises low [] more h = lower 0 low more (omega arith) h
-end_rises low (n ∷ ns) more h = end_rises n ns more (and_parts (nat_le low n) (rises n (ns ++ more)) h).1
+end_rises low (n ∷ ns) more h = end_rises n ns more (and_parts (nat_le low n) (never_falls n (ns ++ more)) h).1
 
-pub suffix_rises : (low : ℕ) (ns more : List ℕ) → rises low (ns ++ more) ≡ true → rises low more ≡ true
+pub suffix_rises : (low : ℕ) (ns more : List ℕ) → never_falls low (ns ++ more) ≡ true → never_falls low more ≡ true
 suffix_rises low [] more h = h
 suffix_rises low (n ∷ ns) more h =
-    let parts = and_parts (nat_le low n) (rises n (ns ++ more)) h in
+    let parts = and_parts (nat_le low n) (never_falls n (ns ++ more)) h in
     lower low n more (true_le low n parts.0) (suffix_rises n ns more parts.1)
 
 -- a number between two parts, that the first may have behind it and the second before it
-pub between_rises : (low k : ℕ) (ns more : List ℕ) → rises low (ns ++ k ∷ []) ≡ true → rises k more ≡ true → rises low (ns ++ k ∷ more) ≡ true
-between_rises low k [] more h so = let parts = and_parts (nat_le low k) true h in and_from (nat_le low k) (rises k more) parts.0 so
+pub between_rises : (low k : ℕ) (ns more : List ℕ) → never_falls low (ns ++ k ∷ []) ≡ true → never_falls k more ≡ true → never_falls low (ns ++ k ∷ more) ≡ true
+between_rises low k [] more h so = let parts = and_parts (nat_le low k) true h in and_from (nat_le low k) (never_falls k more) parts.0 so
 between_rises low k (n ∷ ns) more h so =
-    let parts = and_parts (nat_le low n) (rises n (ns ++ k ∷ [])) h in
-    and_from (nat_le low n) (rises n (ns ++ k ∷ more)) parts.0 (between_rises n k ns more parts.1 so)
+    let parts = and_parts (nat_le low n) (never_falls n (ns ++ k ∷ [])) h in
+    and_from (nat_le low n) (never_falls n (ns ++ k ∷ more)) parts.0 (between_rises n k ns more parts.1 so)
 
 -- what rises from its own first number on rises from any that isn't above it
-pub head_rises : (k n : ℕ) (ns : List ℕ) → rises 0 (n ∷ ns) ≡ true → k ≤ n → rises k (n ∷ ns) ≡ true
-head_rises k n ns h less = let parts = and_parts (nat_le 0 n) (rises n ns) h in and_from (nat_le k n) (rises n ns) (le_true k n less) parts.1
+pub head_rises : (k n : ℕ) (ns : List ℕ) → never_falls 0 (n ∷ ns) ≡ true → k ≤ n → never_falls k (n ∷ ns) ≡ true
+head_rises k n ns h less = let parts = and_parts (nat_le 0 n) (never_falls n ns) h in and_from (nat_le k n) (never_falls n ns) (le_true k n less) parts.1
 
 -- ---- sums
 

@@ -13,7 +13,7 @@ use Rattle.moos_post.specs.History.{History}
 use Rattle.moos_client.specs.Calls.{entries_of}
 use Rattle.moos_client.specs.Hearing.{heard_in, Mailed}
 use Rattle.moos_client.proofs.Histories.{all_kept}
-use Rattle.moos_lawful.specs.Schedules.{clients_below, due_in, entries_below, IsLawfulSoFar, rises, Schedule}
+use Rattle.moos_lawful.specs.Schedules.{clients_below, due_in, entries_below, IsLawfulSoFar, never_falls, Schedule}
 use Rattle.moos_lawful.specs.Answering.{Answerer, answers_of, moment_in, schedule_of, turns_from}
 use Rattle.moos_lawful.proofs.Parts.{all_raised, below_kept, either, part_on}
 use Rattle.moos_lawful.proofs.Rising.{end_rises, front_rises, suffix_rises}
@@ -23,11 +23,11 @@ use Rattle.script_reader.specs.declared.script.Order.TheVariants.{Stamp, Race}
 -- ---- moments
 
 -- in a race all entries have one moment
-pub race_rises : (clients others : ℕ) (xs : List Entry) → rises 0 (map (moment_in Race clients others) xs) ≡ true
+pub race_rises : (clients others : ℕ) (xs : List Entry) → never_falls 0 (map (moment_in Race clients others) xs) ≡ true
 race_rises clients others [] = refl
 race_rises clients others (x ∷ xs) = race_rises clients others xs
 
-race_before : (clients others : ℕ) (xs : List Entry) → rises 0 (map (moment_in Race clients others) xs ++ 0 ∷ []) ≡ true
+race_before : (clients others : ℕ) (xs : List Entry) → never_falls 0 (map (moment_in Race clients others) xs ++ 0 ∷ []) ≡ true
 race_before clients others [] = refl
 race_before clients others (x ∷ xs) = race_before clients others xs
 
@@ -65,17 +65,17 @@ all_late clients others bound stamp (line ∷ lines) low below late =
     and_from (nat_le bound (moment_in Stamp clients others line)) (list_all (λ line. nat_le bound (moment_in Stamp clients others line)) lines) (grind (arith, nat_tests, above)) (all_late clients others bound stamp lines low belows.1 lates.1)
 
 -- what rises, and isn't before a bound, rises from it
-late_rises : (key : Entry → ℕ) (bound : ℕ) (xs : List Entry) → list_all (λ x. nat_le bound (key x)) xs ≡ true → rises 0 (map key xs) ≡ true → rises bound (map key xs) ≡ true
+late_rises : (key : Entry → ℕ) (bound : ℕ) (xs : List Entry) → list_all (λ x. nat_le bound (key x)) xs ≡ true → never_falls 0 (map key xs) ≡ true → never_falls bound (map key xs) ≡ true
 late_rises key bound [] late h = refl
 late_rises key bound (x ∷ xs) late h =
-    and_from (nat_le bound (key x)) (rises (key x) (map key xs)) (and_parts (nat_le bound (key x)) (list_all (λ x. nat_le bound (key x)) xs) late).0 (and_parts (nat_le 0 (key x)) (rises (key x) (map key xs)) h).1
+    and_from (nat_le bound (key x)) (never_falls (key x) (map key xs)) (and_parts (nat_le bound (key x)) (list_all (λ x. nat_le bound (key x)) xs) late).0 (and_parts (nat_le 0 (key x)) (never_falls (key x) (map key xs)) h).1
 
 -- the turns of a client rise from any moment that isn't above the first
-pub turns_rise : {A : Type 0} (answerer : Answerer A) (clients others n period : ℕ) (heard : List A) (i count bound : ℕ) → bound ≤ suc others * (i * period) + (suc n - clients) → rises bound (map (moment_in Stamp clients others) (turns_from answerer n period heard i count)) ≡ true
+pub turns_rise : {A : Type 0} (answerer : Answerer A) (clients others n period : ℕ) (heard : List A) (i count bound : ℕ) → bound ≤ suc others * (i * period) + (suc n - clients) → never_falls bound (map (moment_in Stamp clients others) (turns_from answerer n period heard i count)) ≡ true
 turns_rise answerer clients others n period heard i zero bound low = refl
 turns_rise answerer clients others n period heard i (suc count) bound low =
-    and_from (nat_le bound m) (nat_le m m && rises m (map (moment_in Stamp clients others) later)) (grind (arith, nat_tests, low))
-    (and_from (nat_le m m) (rises m (map (moment_in Stamp clients others) later)) (grind (arith, nat_tests)) (turns_rise answerer clients others n period heard (suc i) count m next))
+    and_from (nat_le bound m) (nat_le m m && never_falls m (map (moment_in Stamp clients others) later)) (grind (arith, nat_tests, low))
+    (and_from (nat_le m m) (never_falls m (map (moment_in Stamp clients others) later)) (grind (arith, nat_tests)) (turns_rise answerer clients others n period heard (suc i) count m next))
   where
     m : ℕ
     m = suc others * (i * period) + (suc n - clients)
@@ -103,9 +103,9 @@ module _ {A : Type 0} (lines : List Entry) (clients stop period : ℕ) (answerer
     -- in order Stamp all entries of a step have one moment, before which nothing is left
     pub record HasMoment (rest later : History) (left : ℕ → List Entry) : Type 0 where
       pub moment : ℕ
-      pub before : rises 0 (map (moment_in Stamp clients (length answerers)) (entries_below (clients + length answerers) rest) ++ moment ∷ []) ≡ true
+      pub before : never_falls 0 (map (moment_in Stamp clients (length answerers)) (entries_below (clients + length answerers) rest) ++ moment ∷ []) ≡ true
       pub one : list_all (λ n. n == moment) (map (moment_in Stamp clients (length answerers)) later) ≡ true
-      pub behind : (n : ℕ) → n < clients + length answerers → rises moment (map (moment_in Stamp clients (length answerers)) (left n)) ≡ true
+      pub behind : (n : ℕ) → n < clients + length answerers → never_falls moment (map (moment_in Stamp clients (length answerers)) (left n)) ≡ true
 
     -- what an order asks of a step
     abbrev pub KeepsMoment : Order → History → History → (ℕ → List Entry) → Type 0
@@ -153,19 +153,19 @@ module _ {A : Type 0} (lines : List Entry) (clients stop period : ℕ) (answerer
     -- ---- in order Stamp
 
     -- the moments so far, and of what is left for a client
-    left_rises : (history : History) (so : IsLawfulSoFar (schedule Stamp) history) (n : ℕ) → n < clients + length answerers → rises 0 (map (moment_in Stamp clients (length answerers)) (so.left n)) ≡ true
+    left_rises : (history : History) (so : IsLawfulSoFar (schedule Stamp) history) (n : ℕ) → n < clients + length answerers → never_falls 0 (map (moment_in Stamp clients (length answerers)) (so.left n)) ≡ true
     left_rises history so n below =
         end_rises 0 (map (moment_in Stamp clients (length answerers)) (entries_below (clients + length answerers) so.rest)) (map (moment_in Stamp clients (length answerers)) (so.left n))
-        (subst (λ all. rises 0 all ≡ true) (map-append (moment_in Stamp clients (length answerers)) (entries_below (clients + length answerers) so.rest) (so.left n)) (so.moments n below))
+        (subst (λ all. never_falls 0 all ≡ true) (map-append (moment_in Stamp clients (length answerers)) (entries_below (clients + length answerers) so.rest) (so.left n)) (so.moments n below))
 
     -- a moment at which something is left isn't below one so far
     begins_before : (history : History) (so : IsLawfulSoFar (schedule Stamp) history) (n moment : ℕ) (entry : Entry) (left : List Entry) → n < clients + length answerers → so.left n ≡ entry ∷ left → moment_in Stamp clients (length answerers) entry ≡ moment
-        → rises 0 (map (moment_in Stamp clients (length answerers)) (entries_below (clients + length answerers) so.rest) ++ moment ∷ []) ≡ true
+        → never_falls 0 (map (moment_in Stamp clients (length answerers)) (entries_below (clients + length answerers) so.rest) ++ moment ∷ []) ≡ true
     begins_before history so n moment entry left below is at =
-        subst (λ moment. rises 0 (some ++ moment ∷ []) ≡ true) at
+        subst (λ moment. never_falls 0 (some ++ moment ∷ []) ≡ true) at
         (front_rises 0 (some ++ key entry ∷ []) (map key left)
-        (subst (λ all. rises 0 all ≡ true) (sym (append_assoc some (key entry ∷ []) (map key left)))
-        (subst (λ all. rises 0 all ≡ true) (map-append key (entries_below (clients + length answerers) so.rest) (entry ∷ left)) (subst (λ left. rises 0 (map key (entries_below (clients + length answerers) so.rest ++ left)) ≡ true) is (so.moments n below)))))
+        (subst (λ all. never_falls 0 all ≡ true) (sym (append_assoc some (key entry ∷ []) (map key left)))
+        (subst (λ all. never_falls 0 all ≡ true) (map-append key (entries_below (clients + length answerers) so.rest) (entry ∷ left)) (subst (λ left. never_falls 0 (map key (entries_below (clients + length answerers) so.rest ++ left)) ≡ true) is (so.moments n below)))))
       where
         key : Entry → ℕ
         key = moment_in Stamp clients (length answerers)
@@ -175,13 +175,13 @@ module _ {A : Type 0} (lines : List Entry) (clients stop period : ℕ) (answerer
 
     -- what isn't before a bound of what is left for a client of the script
     rest_rises : (bound stamp : ℕ) (part more : List Entry) (history later : History) (so : IsLawfulSoFar (schedule Stamp) history) (rest : List Entry) (n : ℕ) → n < clients → so.left n ≡ entries_of n (part ++ more) → entries_of n part ≡ entries_of n later ++ rest → bound ≤ suc (length answerers) * stamp
-        → clients_below clients (part ++ more) ≡ true → list_all (λ line. nat_le stamp line.stamp) (part ++ more) ≡ true → rises bound (map (moment_in Stamp clients (length answerers)) (rest ++ entries_of n more)) ≡ true
+        → clients_below clients (part ++ more) ≡ true → list_all (λ line. nat_le stamp line.stamp) (part ++ more) ≡ true → never_falls bound (map (moment_in Stamp clients (length answerers)) (rest ++ entries_of n more)) ≡ true
     rest_rises bound stamp part more history later so rest n less own front low below late =
         suffix_rises bound (map key (entries_of n later)) (map key (rest ++ entries_of n more))
-        (subst (λ all. rises bound all ≡ true) (map-append key (entries_of n later) (rest ++ entries_of n more))
-        (subst (λ left. rises bound (map key left) ≡ true) (filter-append (λ entry. entry.client == n) part more ∙ ap (λ front. front ++ entries_of n more) front ∙ append_assoc (entries_of n later) rest (entries_of n more))
+        (subst (λ all. never_falls bound all ≡ true) (map-append key (entries_of n later) (rest ++ entries_of n more))
+        (subst (λ left. never_falls bound (map key left) ≡ true) (filter-append (λ entry. entry.client == n) part more ∙ ap (λ front. front ++ entries_of n more) front ∙ append_assoc (entries_of n later) rest (entries_of n more))
         (late_rises key bound (entries_of n (part ++ more)) (all_kept (λ line. nat_le bound (key line)) (λ line. line.client == n) (part ++ more) (all_late clients (length answerers) bound stamp (part ++ more) low below late))
-        (subst (λ left. rises 0 (map key left) ≡ true) own (left_rises history so n (omega (arith, less)))))))
+        (subst (λ left. never_falls 0 (map key left) ≡ true) own (left_rises history so n (omega (arith, less)))))))
       where
         key : Entry → ℕ
         key = moment_in Stamp clients (length answerers)
@@ -189,7 +189,7 @@ module _ {A : Type 0} (lines : List Entry) (clients stop period : ℕ) (answerer
     -- lines of one stamp, which nothing that is left is before
     pub lines_moment : (stamp : ℕ) (line : Entry) (part more : List Entry) (history later : History) (so : IsLawfulSoFar (schedule Stamp) history) (rest left : ℕ → List Entry) → ((n : ℕ) → n < clients → so.left n ≡ entries_of n ((line ∷ part) ++ more))
         → ((n : ℕ) → n < clients → entries_of n (line ∷ part) ≡ entries_of n later ++ rest n) → clients_below clients ((line ∷ part) ++ more) ≡ true → list_all (λ line. nat_le stamp line.stamp) ((line ∷ part) ++ more) ≡ true → line.stamp ≡ stamp
-        → clients_below clients later ≡ true → list_all (λ line. line.stamp == stamp) later ≡ true → ((n : ℕ) → clients ≤ n → n < clients + length answerers → rises (suc (length answerers) * stamp) (map (moment_in Stamp clients (length answerers)) (left n)) ≡ true)
+        → clients_below clients later ≡ true → list_all (λ line. line.stamp == stamp) later ≡ true → ((n : ℕ) → clients ≤ n → n < clients + length answerers → never_falls (suc (length answerers) * stamp) (map (moment_in Stamp clients (length answerers)) (left n)) ≡ true)
         → HasMoment so.rest later (left_by clients rest more left)
     lines_moment stamp line part more history later so rest left own fronts below late here theirs one others = record {
       moment = suc (length answerers) * stamp;
@@ -206,20 +206,20 @@ module _ {A : Type 0} (lines : List Entry) (clients stop period : ℕ) (answerer
         less : line.client < clients
         less = grind (arith, nat_tests, first)
 
-        by : (n : ℕ) → n < clients + length answerers → (nat_lt n clients ≡ true) ⊎ (nat_lt n clients ≡ false) → rises (suc (length answerers) * stamp) (map (moment_in Stamp clients (length answerers)) (left_by clients rest more left n)) ≡ true
+        by : (n : ℕ) → n < clients + length answerers → (nat_lt n clients ≡ true) ⊎ (nat_lt n clients ≡ false) → never_falls (suc (length answerers) * stamp) (map (moment_in Stamp clients (length answerers)) (left_by clients rest more left n)) ≡ true
         by n under (inl e) =
             let under : n < clients = grind (arith, nat_tests, e) in
-            subst (λ b. rises (suc (length answerers) * stamp) (map (moment_in Stamp clients (length answerers)) (cond b (rest n ++ entries_of n more) (left n))) ≡ true) (sym e)
+            subst (λ b. never_falls (suc (length answerers) * stamp) (map (moment_in Stamp clients (length answerers)) (cond b (rest n ++ entries_of n more) (left n))) ≡ true) (sym e)
             (rest_rises (suc (length answerers) * stamp) stamp (line ∷ part) more history later so (rest n) n under (own n under) (fronts n under) (omega arith) below late)
         by n under (inr e) =
-            subst (λ b. rises (suc (length answerers) * stamp) (map (moment_in Stamp clients (length answerers)) (cond b (rest n ++ entries_of n more) (left n))) ≡ true) (sym e)
+            subst (λ b. never_falls (suc (length answerers) * stamp) (map (moment_in Stamp clients (length answerers)) (cond b (rest n ++ entries_of n more) (left n))) ≡ true) (sym e)
             (others n (grind (arith, nat_tests, e)) under)
 
     -- a turn of a client that answers, where all lines that are left have later stamps
     pub turn_moment : (stamp k : ℕ) (entry : Entry) (due more : List Entry) (history later : History) (so : IsLawfulSoFar (schedule Stamp) history) (rest left : ℕ → List Entry) → clients ≤ k → k < clients + length answerers → so.left k ≡ entry ∷ due → moment_in Stamp clients (length answerers) entry ≡ suc (length answerers) * stamp + (suc k - clients)
         → ((n : ℕ) → n < clients → so.left n ≡ entries_of n more) → ((n : ℕ) → n < clients → [] ≡ entries_of n later ++ rest n) → clients_below clients more ≡ true → list_all (λ line. nat_le (suc stamp) line.stamp) more ≡ true
         → list_all (λ n. n == suc (length answerers) * stamp + (suc k - clients)) (map (moment_in Stamp clients (length answerers)) later) ≡ true
-        → ((n : ℕ) → clients ≤ n → n < clients + length answerers → rises (suc (length answerers) * stamp + (suc k - clients)) (map (moment_in Stamp clients (length answerers)) (left n)) ≡ true) → HasMoment so.rest later (left_by clients rest more left)
+        → ((n : ℕ) → clients ≤ n → n < clients + length answerers → never_falls (suc (length answerers) * stamp + (suc k - clients)) (map (moment_in Stamp clients (length answerers)) (left n)) ≡ true) → HasMoment so.rest later (left_by clients rest more left)
     turn_moment stamp k entry due more history later so rest left past known is at own none below late one others = record {
       moment = moment;
       before = begins_before history so k moment entry due known is at;
@@ -233,11 +233,11 @@ module _ {A : Type 0} (lines : List Entry) (clients stop period : ℕ) (answerer
         low : moment ≤ suc (length answerers) * suc stamp
         low = let next : suc (length answerers) * suc stamp ≡ suc (length answerers) * stamp + suc (length answerers) = mul-suc (suc (length answerers)) stamp in let rank : suc k - clients ≤ length answerers = omega (arith, past, known) in omega (arith, next, rank)
 
-        by : (n : ℕ) → n < clients + length answerers → (nat_lt n clients ≡ true) ⊎ (nat_lt n clients ≡ false) → rises moment (map (moment_in Stamp clients (length answerers)) (left_by clients rest more left n)) ≡ true
+        by : (n : ℕ) → n < clients + length answerers → (nat_lt n clients ≡ true) ⊎ (nat_lt n clients ≡ false) → never_falls moment (map (moment_in Stamp clients (length answerers)) (left_by clients rest more left n)) ≡ true
         by n under (inl e) =
             let under : n < clients = grind (arith, nat_tests, e) in
-            subst (λ b. rises moment (map (moment_in Stamp clients (length answerers)) (cond b (rest n ++ entries_of n more) (left n))) ≡ true) (sym e)
+            subst (λ b. never_falls moment (map (moment_in Stamp clients (length answerers)) (cond b (rest n ++ entries_of n more) (left n))) ≡ true) (sym e)
             (rest_rises moment (suc stamp) [] more history later so (rest n) n under (own n under) (none n under) low below late)
         by n under (inr e) =
-            subst (λ b. rises moment (map (moment_in Stamp clients (length answerers)) (cond b (rest n ++ entries_of n more) (left n))) ≡ true) (sym e)
+            subst (λ b. never_falls moment (map (moment_in Stamp clients (length answerers)) (cond b (rest n ++ entries_of n more) (left n))) ≡ true) (sym e)
             (others n (grind (arith, nat_tests, e)) under)

@@ -12,38 +12,38 @@ use Rattle.moos_post.specs.declared.entry.Entry.{Entry}
 use Rattle.moos_post.specs.History.{History}
 use Rattle.moos_client.specs.Calls.{entries_of}
 use Rattle.moos_client.specs.Hearing.{heard_in}
-use Rattle.moos_lawful.specs.Schedules.{due_in, entries_below, IsPlayable, IsLawfulSoFar, rises, Schedule}
+use Rattle.moos_lawful.specs.Schedules.{due_in, entries_below, IsPlayable, IsLawfulSoFar, never_falls, Schedule}
 use Rattle.moos_lawful.proofs.Parts.{below_kept, all_raised, due_stays, either, none_of, part_with}
 use Rattle.moos_client.proofs.Hearing.{heard_append, heard_none}
 use Rattle.moos_lawful.specs.Widening.{IsBounded, IsWider}
 use Rattle.moos_lawful.proofs.Rising.{end_rises, front_rises, lower, true_le}
 
 -- entries whose moments rise by one measure rise by another that keeps its order
-last_rises : (p : Entry → Bool) (old new : Entry → ℕ) → ((x y : Entry) → p x ≡ true → p y ≡ true → old x ≤ old y → new x ≤ new y) → (x : Entry) → p x ≡ true → (xs : List Entry) → list_all p xs ≡ true → rises (old x) (map old xs) ≡ true → rises (new x) (map new xs) ≡ true
+last_rises : (p : Entry → Bool) (old new : Entry → ℕ) → ((x y : Entry) → p x ≡ true → p y ≡ true → old x ≤ old y → new x ≤ new y) → (x : Entry) → p x ≡ true → (xs : List Entry) → list_all p xs ≡ true → never_falls (old x) (map old xs) ≡ true → never_falls (new x) (map new xs) ≡ true
 last_rises p old new keeps x px [] all h = refl
 last_rises p old new keeps x px (y ∷ xs) all h =
     let tests = and_parts (p y) (list_all p xs) all in
-    let parts = and_parts (nat_le (old x) (old y)) (rises (old y) (map old xs)) h in
+    let parts = and_parts (nat_le (old x) (old y)) (never_falls (old y) (map old xs)) h in
     let so : new x ≤ new y = keeps x y px tests.0 (true_le (old x) (old y) parts.0) in
-    and_from (nat_le (new x) (new y)) (rises (new y) (map new xs)) (grind (arith, nat_tests, so)) (last_rises p old new keeps y tests.0 xs tests.1 parts.1)
+    and_from (nat_le (new x) (new y)) (never_falls (new y) (map new xs)) (grind (arith, nat_tests, so)) (last_rises p old new keeps y tests.0 xs tests.1 parts.1)
 
 -- from a bound that isn't above the first of them
-pub rises_from : (p : Entry → Bool) (old new : Entry → ℕ) → ((x y : Entry) → p x ≡ true → p y ≡ true → old x ≤ old y → new x ≤ new y) → (bound : ℕ) (xs : List Entry) → list_all p xs ≡ true → list_all (λ entry. nat_le bound (new entry)) xs ≡ true → rises 0 (map old xs) ≡ true
-    → rises bound (map new xs) ≡ true
+pub rises_from : (p : Entry → Bool) (old new : Entry → ℕ) → ((x y : Entry) → p x ≡ true → p y ≡ true → old x ≤ old y → new x ≤ new y) → (bound : ℕ) (xs : List Entry) → list_all p xs ≡ true → list_all (λ entry. nat_le bound (new entry)) xs ≡ true → never_falls 0 (map old xs) ≡ true
+    → never_falls bound (map new xs) ≡ true
 rises_from p old new keeps bound [] all from h = refl
 rises_from p old new keeps bound (x ∷ xs) all from h =
     let tests = and_parts (p x) (list_all p xs) all in
-    let parts = and_parts (nat_le 0 (old x)) (rises (old x) (map old xs)) h in
+    let parts = and_parts (nat_le 0 (old x)) (never_falls (old x) (map old xs)) h in
     let first = and_parts (nat_le bound (new x)) (list_all (λ entry. nat_le bound (new entry)) xs) from in
-    and_from (nat_le bound (new x)) (rises (new x) (map new xs)) first.0 (last_rises p old new keeps x tests.0 xs tests.1 parts.1)
+    and_from (nat_le bound (new x)) (never_falls (new x) (map new xs)) first.0 (last_rises p old new keeps x tests.0 xs tests.1 parts.1)
 
 -- numbers within two bounds that rise, and those from the upper one on
-within_rises : (low top : ℕ) (ns more : List ℕ) → low ≤ top → rises low ns ≡ true → list_all (λ n. nat_le n top) ns ≡ true → rises top more ≡ true → rises low (ns ++ more) ≡ true
+within_rises : (low top : ℕ) (ns more : List ℕ) → low ≤ top → never_falls low ns ≡ true → list_all (λ n. nat_le n top) ns ≡ true → never_falls top more ≡ true → never_falls low (ns ++ more) ≡ true
 within_rises low top [] more less h most so = lower low top more less so
 within_rises low top (n ∷ ns) more less h most so =
-    let parts = and_parts (nat_le low n) (rises n ns) h in
+    let parts = and_parts (nat_le low n) (never_falls n ns) h in
     let tests = and_parts (nat_le n top) (list_all (λ n. nat_le n top) ns) most in
-    and_from (nat_le low n) (rises n (ns ++ more)) parts.0 (within_rises n top ns more (true_le n top tests.0) parts.1 tests.1 so)
+    and_from (nat_le low n) (never_falls n (ns ++ more)) parts.0 (within_rises n top ns more (true_le n top tests.0) parts.1 tests.1 so)
 
 -- nobody below a number is among entries of clients from it on
 none_before : (known n : ℕ) (xs : History) → n < known → list_all (λ entry. nat_le known entry.client) xs ≡ true → entries_of n xs ≡ []
@@ -105,11 +105,11 @@ widened {A = A} short long may wider history later so now bounds =
     both p xs ys a b = list_all-append p xs ys ∙ and_from (list_all p xs) (list_all p ys) a b
 
     -- by the shorter schedule the part and what is left behind it rise
-    short_rises : (n : ℕ) → n < short.known → rises 0 (map short.moment (later ++ now.left n)) ≡ true
+    short_rises : (n : ℕ) → n < short.known → never_falls 0 (map short.moment (later ++ now.left n)) ≡ true
     short_rises n below =
         end_rises 0 (map short.moment (entries_below short.known (wider.openings ++ so.rest))) (map short.moment (later ++ now.left n))
-        (subst (λ all. rises 0 all ≡ true) (map-append short.moment (entries_below short.known (wider.openings ++ so.rest)) (later ++ now.left n))
-        (subst (λ some. rises 0 (map short.moment some) ≡ true) cut (now.moments n below)))
+        (subst (λ all. never_falls 0 all ≡ true) (map-append short.moment (entries_below short.known (wider.openings ++ so.rest)) (later ++ now.left n))
+        (subst (λ some. never_falls 0 (map short.moment some) ≡ true) cut (now.moments n below)))
       where
         cut : entries_below short.known now.rest ++ now.left n ≡ entries_below short.known (wider.openings ++ so.rest) ++ (later ++ now.left n)
         cut =
@@ -117,26 +117,26 @@ widened {A = A} short long may wider history later so now bounds =
             ∙ ap (λ end. entries_below short.known (wider.openings ++ so.rest) ++ end) (below_kept short.known later bounds.clients))
             ∙ append_assoc (entries_below short.known (wider.openings ++ so.rest)) later (now.left n)
 
-    behind : (n : ℕ) → n < long.known → (nat_lt n short.known ≡ true) ⊎ (nat_lt n short.known ≡ false) → rises bounds.low (map long.moment (entries_below long.known later) ++ map long.moment (left n)) ≡ true
+    behind : (n : ℕ) → n < long.known → (nat_lt n short.known ≡ true) ⊎ (nat_lt n short.known ≡ false) → never_falls bounds.low (map long.moment (entries_below long.known later) ++ map long.moment (left n)) ≡ true
     behind n below (inl e) =
         let here : n < short.known = grind (arith, nat_tests, e) in
-        subst (λ b. rises bounds.low (map long.moment (entries_below long.known later) ++ map long.moment (cond b (now.left n) (so.left n))) ≡ true) (sym e)
-        (subst (λ some. rises bounds.low (map long.moment some ++ map long.moment (now.left n)) ≡ true) (sym later_is)
-        (subst (λ all. rises bounds.low all ≡ true) (map-append long.moment later (now.left n))
+        subst (λ b. never_falls bounds.low (map long.moment (entries_below long.known later) ++ map long.moment (cond b (now.left n) (so.left n))) ≡ true) (sym e)
+        (subst (λ some. never_falls bounds.low (map long.moment some ++ map long.moment (now.left n)) ≡ true) (sym later_is)
+        (subst (λ all. never_falls bounds.low all ≡ true) (map-append long.moment later (now.left n))
         (rises_from (λ entry. nat_lt entry.client short.known) short.moment long.moment wider.keeps bounds.low (later ++ now.left n) (both (λ entry. nat_lt entry.client short.known) later (now.left n) bounds.clients (left_own n here))
         (both (λ entry. nat_le bounds.low (long.moment entry)) later (now.left n) bounds.above (bounds.left n here)) (short_rises n here))))
     behind n below (inr e) =
-        subst (λ b. rises bounds.low (map long.moment (entries_below long.known later) ++ map long.moment (cond b (now.left n) (so.left n))) ≡ true) (sym e)
-        (subst (λ some. rises bounds.low (map long.moment some ++ map long.moment (so.left n)) ≡ true) (sym later_is)
+        subst (λ b. never_falls bounds.low (map long.moment (entries_below long.known later) ++ map long.moment (cond b (now.left n) (so.left n))) ≡ true) (sym e)
+        (subst (λ some. never_falls bounds.low (map long.moment some ++ map long.moment (so.left n)) ≡ true) (sym later_is)
         (within_rises bounds.low bounds.high (map long.moment later) (map long.moment (so.left n)) bounds.rising (alone (either (nat_lt 0 short.known))) bounds.below (bounds.further n (grind (arith, nat_tests, e)) below)))
       where
-        alone : (nat_lt 0 short.known ≡ true) ⊎ (nat_lt 0 short.known ≡ false) → rises bounds.low (map long.moment later) ≡ true
+        alone : (nat_lt 0 short.known ≡ true) ⊎ (nat_lt 0 short.known ≡ false) → never_falls bounds.low (map long.moment later) ≡ true
         alone (inl some) =
             let here : 0 < short.known = grind (arith, nat_tests, some) in
             rises_from (λ entry. nat_lt entry.client short.known) short.moment long.moment wider.keeps bounds.low later bounds.clients bounds.above
-            (front_rises 0 (map short.moment later) (map short.moment (now.left 0)) (subst (λ all. rises 0 all ≡ true) (map-append short.moment later (now.left 0)) (short_rises 0 here)))
+            (front_rises 0 (map short.moment later) (map short.moment (now.left 0)) (subst (λ all. never_falls 0 all ≡ true) (map-append short.moment later (now.left 0)) (short_rises 0 here)))
         alone (inr none) = nobody later bounds.clients
           where
-            nobody : (xs : History) → list_all (λ entry. nat_lt entry.client short.known) xs ≡ true → rises bounds.low (map long.moment xs) ≡ true
+            nobody : (xs : History) → list_all (λ entry. nat_lt entry.client short.known) xs ≡ true → never_falls bounds.low (map long.moment xs) ≡ true
             nobody [] all = refl
             nobody (x ∷ xs) all = absurd (grind (arith, nat_tests, none, (and_parts (nat_lt x.client short.known) (list_all (λ entry. nat_lt entry.client short.known) xs) all).0))

@@ -16,7 +16,7 @@ pub record Answerer (A : Type 0) : Type 0 where
   pub opening : List Call
   pub says : List A → List Pair
 
--- its entries at so many turns from one on: it fetches and posts at each
+-- the entries at `count` turns, from turn i on, of a client that answers each tick: it fetches and posts at each
 abbrev pub turns_from : {A : Type 0} → Answerer A → ℕ → ℕ → List A → ℕ → ℕ → List Entry
 turns_from answerer client period heard i zero = []
 turns_from answerer client period heard i (suc count) =
@@ -41,13 +41,14 @@ due_of lines clients period ticks answerers n heard =
     if nat_lt n clients then entries_of n lines else answers_of period ticks clients answerers n heard
 
 -- The moment of an entry. In order Stamp each stamp has one moment for the clients of the script and then one for each of the
--- others, in the order of their numbers; in a race there is but one.
+-- others, in the order of their numbers: what is added is 0 for the script's clients, since a difference stops at 0, and then 1,
+-- 2 and so on. In a race there is but one moment.
 abbrev pub moment_in : Order → ℕ → ℕ → Entry → ℕ
 moment_in Stamp clients others entry = suc others * entry.stamp + (suc entry.client - clients)
 moment_in Race clients others entry = 0
 
--- the schedule of a script's lines, of so many clients, beside these clients that answer each tick up to a stamp, among so many
--- names
+-- the schedule of a script's lines, of `clients` clients, beside these clients that answer each tick up to a stamp, among `names`
+-- clients that have a name
 abbrev pub schedule_of : {A : Type 0} → Order → List Entry → ℕ → ℕ → ℕ → List (Answerer A) → ℕ → Mailed A → Schedule A
 schedule_of order lines clients stop period answerers names mailed = record {
   start = openings clients answerers;

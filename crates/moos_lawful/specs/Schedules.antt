@@ -1,5 +1,5 @@
--- Which histories are lawful so far: each client has done the first of what it is due to do over what it has heard, and what
--- is left may still come in its order.
+-- Which histories are lawful for a schedule: each client does what it is due to do over what it has heard. In one that is lawful
+-- so far each has done the first of that, and what is left may still come in its order.
 use Rattle.std.specs.Prelude.{◌≡◌, ℕ, ◌<◌, ◌≤◌, ◌&&◌, Bool, true, nat_le, nat_lt, IsTrue, List, [], ◌∷◌, ◌++◌, filter, length, map}
 use Rattle.std.specs.List.{list_all}
 use Rattle.moos_post.specs.declared.entry.Entry.{Entry}
@@ -21,9 +21,9 @@ abbrev pub clients_below : ℕ → History → Bool
 clients_below number history = list_all (λ entry. nat_lt entry.client number) history
 
 -- no number is below the one before, nor the first below a bound
-abbrev pub rises : ℕ → List ℕ → Bool
-rises low [] = true
-rises low (n ∷ ns) = nat_le low n && rises n ns
+abbrev pub never_falls : ℕ → List ℕ → Bool
+never_falls low [] = true
+never_falls low (n ∷ ns) = nat_le low n && never_falls n ns
 
 -- What is played: how the history begins, what each of the known clients is due to do over what it hears, what it hears, how
 -- many clients have a name, and the moment of an entry, before which no entry of a later moment may be.
@@ -39,7 +39,7 @@ pub record Schedule (A : Type 0) : Type 0 where
 abbrev pub due_in : {A : Type 0} → Schedule A → ℕ → History → List Entry
 due_in schedule n rest = schedule.due n (heard_in schedule.mailed n schedule.start rest)
 
--- the moments of the known clients' entries, and of some more
+-- the moments of the known clients' entries in a history, and then of these entries
 abbrev pub moments_with : {A : Type 0} → Schedule A → History → List Entry → List ℕ
 moments_with schedule rest more = map schedule.moment (entries_below schedule.known rest ++ more)
 
@@ -51,18 +51,20 @@ pub record IsLawfulSoFar {A : Type 0} (schedule : Schedule A) (history : History
   pub opened : history ≡ schedule.start ++ rest
   pub left : ℕ → List Entry
   pub own : (n : ℕ) → n < schedule.known → due_in schedule n rest ≡ entries_of n rest ++ left n
-  pub moments : (n : ℕ) → n < schedule.known → IsTrue (rises 0 (moments_with schedule rest (left n)))
+  pub moments : (n : ℕ) → n < schedule.known → IsTrue (never_falls 0 (moments_with schedule rest (left n)))
   pub named : IsTrue (clients_below schedule.names rest)
 
--- a history that is lawful for a schedule: one that is lawful so far, and in which nothing is left
+-- A history that is lawful for a schedule: behind the start each known client's entries are what it is due to do over what it
+-- hears in this very history, no known client's entry follows one of a later moment, and nobody without a name has an entry.
+-- Clients that aren't known may have any entries.
 pub record IsLawfulFor {A : Type 0} (schedule : Schedule A) (history : History) : Type 0 where
   pub rest : History
   pub opened : history ≡ schedule.start ++ rest
   pub own : (n : ℕ) → n < schedule.known → entries_of n rest ≡ due_in schedule n rest
-  pub moments : IsTrue (rises 0 (moments_with schedule rest []))
+  pub moments : IsTrue (never_falls 0 (moments_with schedule rest []))
   pub named : IsTrue (clients_below schedule.names rest)
 
--- some entries more of the known clients, with which a history is lawful
+-- some more entries of the known clients, with which a history is lawful
 pub record Completion {A : Type 0} (schedule : Schedule A) (history : History) : Type 0 where
   pub rest : History
   pub known_alone : IsTrue (clients_below schedule.known rest)

@@ -3,7 +3,7 @@ use Rattle.std.specs.Prelude.{◌≡◌, ℕ, ◌<◌, ◌≤◌, nat_le, nat_lt
 use Rattle.std.specs.List.{list_all}
 use Rattle.moos_post.specs.declared.entry.Entry.{Entry}
 use Rattle.moos_post.specs.History.{History}
-use Rattle.moos_lawful.specs.Schedules.{clients_below, entries_below, IsLawfulSoFar, rises, Schedule}
+use Rattle.moos_lawful.specs.Schedules.{clients_below, entries_below, IsLawfulSoFar, never_falls, Schedule}
 
 -- The wider of two schedules knows more clients, has their openings at the end of its start, and measures the clients of both in
 -- the same order.
@@ -25,8 +25,8 @@ pub record IsBounded {A : Type 0} (short long : Schedule A) (history later : His
   pub high : ℕ
   pub rising : low ≤ high
   pub clients : IsTrue (clients_below short.known later)
-  pub before : IsTrue (rises 0 (map long.moment (entries_below long.known so.rest) ++ low ∷ []))
+  pub before : IsTrue (never_falls 0 (map long.moment (entries_below long.known so.rest) ++ low ∷ []))
   pub above : IsTrue (list_all (λ entry. nat_le low (long.moment entry)) later)
   pub below : IsTrue (list_all (λ n. nat_le n high) (map long.moment later))
   pub left : (n : ℕ) → n < short.known → IsTrue (list_all (λ entry. nat_le low (long.moment entry)) (now.left n))
-  pub further : (n : ℕ) → short.known ≤ n → n < long.known → IsTrue (rises high (map long.moment (so.left n)))
+  pub further : (n : ℕ) → short.known ≤ n → n < long.known → IsTrue (never_falls high (map long.moment (so.left n)))

@@ -14,12 +14,12 @@ pub record MailboxState : Type 0 where
 abbrev pub is_one_of : ℕ → List ℕ → Bool
 is_one_of number numbers = list_any (λ one. one == number) numbers
 
--- the numbers with this one more, which keeps their rising order
+-- the numbers with this one added, which keeps their rising order
 abbrev pub with_number : ℕ → List ℕ → List ℕ
 with_number number [] = number ∷ []
 with_number number (one ∷ numbers) = if nat_lt one number then one ∷ with_number number numbers else number ∷ one ∷ numbers
 
--- these numbers in rising order
+-- a list of numbers in rising order
 abbrev pub in_rising_order : List ℕ → List ℕ
 in_rising_order numbers = fold (λ rising number. with_number number rising) [] numbers
 

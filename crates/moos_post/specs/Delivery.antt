@@ -1,5 +1,5 @@
 -- The delivery rule: which posts of a history are mailed to a client, and what each of its fetches gives.
--- The rule is told entry by entry: what one client has after some entries, and what one entry more changes.
+-- The rule is told entry by entry: what one client has after some entries, and what one more entry changes.
 use Rattle.std.specs.Prelude.{ℕ, suc, ◌+◌, Bool, true, false, ◌&&◌, ◌==◌, not, nat_le, if◌then◌else◌, List, [], ◌∷◌, ◌++◌, length, map, filter, fold, take, Option, Some, None, bytes_eq, slice_get}
 use Rattle.std.specs.List.{list_any}
 use Rattle.moos_post.specs.declared.entry.Call.{Call}
@@ -25,9 +25,8 @@ pub record Mailing : Type 0 where
   pub number : ℕ
   pub entry : ℕ
 
--- what a client has after some entries: how many entries there were, up to its own last fetch and in all, and which
--- posts; which of its registrations are live, in the order in which they were made; and all that was ever mailed to it,
--- in the order of mailing
+-- What a client has after some entries: how many of these there are up to and with its last fetch, and how many in all; all
+-- posts; its live registrations, in the order in which they were made; and all mailings to it, in their order.
 pub record Inbox : Type 0 where
   pub fetched : ℕ
   pub entries : ℕ
@@ -39,7 +38,7 @@ pub record Inbox : Type 0 where
 abbrev pub empty_inbox : Inbox
 empty_inbox = record { fetched = 0; entries = 0; posts = []; lives = []; mailed = [] }
 
--- the last stamp of the variable after one post more
+-- the last stamp of the variable after one more post
 abbrev pub newer_stamp : List ℕ → Option ℕ → Post → Option ℕ
 newer_stamp var last post = if bytes_eq post.var var then Some post.stamp else last
 
@@ -98,7 +97,7 @@ abbrev pub catches_up : List (List ℕ) → Inbox → ℕ → Post → List Post
 catches_up names inbox number post later =
     is_latest post later && list_any (is_new_for names inbox.entries post) inbox.lives && not (was_mailed number inbox.mailed)
 
--- it is mailed, and comes through each registration made at this entry that selects it
+-- the client after a post that catches up: it is mailed, and comes through each registration made at this entry that selects it
 abbrev pub with_caught_up : List (List ℕ) → Inbox → ℕ → Post → Inbox
 with_caught_up names inbox number post = record inbox {
   lives = map (λ live. if is_new_for names inbox.entries post live then with_came post live else live) inbox.lives;
@@ -122,7 +121,7 @@ with_own names inbox (Unregister var source) = record inbox { lives = without_pa
 with_own names inbox (Posts batch) = inbox
 with_own names inbox Fetch = record inbox { fetched = suc inbox.entries }
 
--- the client after one entry more: its own registrations count, and posts from everybody
+-- the client after one more entry: its own registrations count, and posts from everybody
 abbrev pub with_entry : List (List ℕ) → ℕ → Inbox → Entry → Inbox
 with_entry names client inbox entry =
     let posted = fold (with_post names) (if entry.client == client then with_own names inbox entry.call else inbox) (posts_of_entry entry)

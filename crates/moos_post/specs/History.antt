@@ -29,6 +29,6 @@ posts_of_entry entry = posts_of_call entry.stamp entry.client entry.call
 abbrev pub posts_of : History → List Post
 posts_of history = flat_map posts_of_entry history
 
--- the name of the client with this number
+-- the name of the client with this number; empty if there is none
 abbrev pub name_of : List (List ℕ) → ℕ → List ℕ
 name_of names client = slice_index_or names client []

@@ -28,7 +28,7 @@ use Rattle.moos_report.specs.Community.{HaveOwnNames, IsCommunity, is_one_line, 
 use Rattle.moos_report.specs.IterationLines.{behavior_text, error_text, fetches_first, iteration_text, outcome_text}
 use Rattle.moos_report.specs.Parts.{BeginsWith, EndsWithin}
 use Rattle.moos_report.specs.Report.{entries_text, report_text, unused_text}
-use Rattle.moos_report.specs.Setups.{no_modes}
+use Rattle.moos_report.specs.Setups.{setup_without_helm}
 
 -- modes are declared
 abbrev with_modes : Setup
@@ -40,12 +40,12 @@ first_lines =
     ∷ record { stamp = 1000; client = 0; call = Posts (record { var = codes "X"; value = Num (pos 5000) } ∷ []) }
     ∷ record { stamp = 2000; client = 0; call = Fetch } ∷ record { stamp = 3000; client = 0; call = Fetch } ∷ []
 
-first_report : report_text no_modes (codes "pA" ∷ []) first_lines []
+first_report : report_text setup_without_helm (codes "pA" ∷ []) first_lines []
     ≡ codes "%% moosdb play 1\n%% client 0 pA\n%% entry 0 0 pA register\n%% reg X * 0\n%% entry 1 1 pA post 0 1\n1 X pA 5\n%% entry 2 2 pA fetch\n%% mail 0 1 X pA 5\n%% entry 3 3 pA fetch\n%% end 4 1\n"
 unfolding digits
 first_report = refl
 
-empty_report : report_text no_modes [] [] [] ≡ codes "%% moosdb play 1\n%% end 0 0\n"
+empty_report : report_text setup_without_helm [] [] [] ≡ codes "%% moosdb play 1\n%% end 0 0\n"
 unfolding digits
 empty_report = refl
 
@@ -58,7 +58,7 @@ second_lines =
     ∷ record { stamp = 1500; client = 1; call = Posts (record { var = codes "T"; value = Text said } ∷ record { var = codes "U"; value = Num (negsuc 1049) } ∷ []) }
     ∷ record { stamp = 2000; client = 0; call = Unregister (codes "T*") (codes "a") } ∷ record { stamp = 2250; client = 0; call = Fetch } ∷ []
 
-second_report : report_text no_modes (codes "b" ∷ codes "a" ∷ []) second_lines []
+second_report : report_text setup_without_helm (codes "b" ∷ codes "a" ∷ []) second_lines []
     ≡ codes "%% moosdb play 1\n%% client 0 b\n%% client 1 a\n%% entry 0 0 b register\n%% reg T* a 0.5\n%% entry 1 1.5 a post 0 2\n1.5 T a \"say \\\"\\\\\\\"\"\n1.5 U a -1.05\n%% entry 2 2 b unregister\n%% reg T* a\n%% entry 3 2.25 b fetch\n%% mail 0 1.5 T a \"say \\\"\\\\\\\"\"\n%% end 4 2\n"
 unfolding digits
 second_report = refl
@@ -104,7 +104,7 @@ told_too_early : EndsWithin vehicle (take 3 ticks) 1 2 (drop 3 ticks) → ⊥
 told_too_early ends = omega (arith, (ends.0 refl (omega arith)).0)
 
 -- the part behind that cut, whose first entry ends the iteration that was begun before
-tick_ended : entries_text no_modes 0 (in_mode 0 false [] ∷ []) vehicle (take 3 ticks) (take 1 (drop 3 ticks))
+tick_ended : entries_text setup_without_helm 0 (in_mode 0 false [] ∷ []) vehicle (take 3 ticks) (take 1 (drop 3 ticks))
     ≡ codes "%% entry 3 0 pHelmIvP post 2 4\n0 IVPHELM_STATE pHelmIvP \"DRIVE\"\n0 MODE pHelmIvP \"ACTIVE\"\n0 DESIRED_SPEED pHelmIvP 0\n0 IVPHELM_ALLSTOP pHelmIvP \"NothingToDo\"\n%% iteration 0 0 DRIVE\n%% none\n"
 unfolding digits
 tick_ended = refl
@@ -144,7 +144,7 @@ second_iteration : follows with_modes (fetched 1 ∷ helm_posts_now ∷ fetched 
 unfolding digits
 second_iteration = refl
 
-iteration_without_modes : follows no_modes (fetched 1 ∷ fetched 1 ∷ []) helm_posts_now ≡ codes "%% iteration 1 0.5 DRIVE\n%% none\n"
+iteration_without_modes : follows setup_without_helm (fetched 1 ∷ fetched 1 ∷ []) helm_posts_now ≡ codes "%% iteration 1 0.5 DRIVE\n%% none\n"
 unfolding digits
 iteration_without_modes = refl
 
@@ -177,7 +177,7 @@ surveyed = record {
   posts = [];
 }
 
-survey_done : iteration_text no_modes 2 surveyed
+survey_done : iteration_text setup_without_helm 2 surveyed
     ≡ codes "%% iteration 2 0.5 DRIVE\n%% update op_region refused\n%% update waypt_survey taken\n%% update station spawned s1\n%% behavior waypt_survey completed\n%% behavior op_region running\n%% error op_region NoPosition\n%% none\n"
 unfolding digits
 survey_done = refl
@@ -193,7 +193,7 @@ other_faults : flat_map error_text (raised OutsidePolygon ∷ raised TooDeep ∷
 other_faults = refl
 
 -- a decision with a mark before each line, last of its iteration; its `end` is not the report's
-decided : iteration_text no_modes 0 (record (in_mode 0 false []) { decision = Some decision })
+decided : iteration_text setup_without_helm 0 (record (in_mode 0 false []) { decision = Some decision })
     ≡ codes "%% iteration 0 0 DRIVE\n%% ivp 1\n%% domain a:0:2:3\n%% domain b:0:1:2\n%% domain d:0:1:2\n%% function 0.002\n%% piece 0 2 0 1 0 1 0 10 0 0\n%% function 0.003\n%% piece 0 0 0 1 0 1 20 0 5 0\n%% piece 1 2 0 1 0 1 0 0 5 0\n%% end\n%% decision 0 1 0 0.075\n%% cut 0 0 : 0.075 2\n%% cut 0 1 : 0.055 10\n%% done\n"
 unfolding digits
 decided = refl
@@ -204,20 +204,20 @@ unfolding digits
 course_and_speed = refl
 
 -- a mode with a line end stands on several lines, one of which could be read as one that isn't printed
-two_lines : StandOnLines no_modes (in_mode 0 false (codes "A\n%% end 1 0") ∷ []) → ⊥
+two_lines : StandOnLines setup_without_helm (in_mode 0 false (codes "A\n%% end 1 0") ∷ []) → ⊥
 two_lines lines = false≢true (lines.modes 0 (in_mode 0 true []) (omega arith))
 
 abbrev OverLines : Iteration → Type 0
 OverLines iteration = IfSome iteration.decision (λ decided. All (λ (axis : Axis). IsTrue (is_one_line axis.name)) decided.problem.axes)
 
 -- so does the name of a behaviour with one
-name_on_two_lines : StandOnLines no_modes (record (in_mode 0 false []) { states = record { name = codes "a\n%% end 1 0"; state = Idle } ∷ [] } ∷ []) → ⊥
+name_on_two_lines : StandOnLines setup_without_helm (record (in_mode 0 false []) { states = record { name = codes "a\n%% end 1 0"; state = Idle } ∷ [] } ∷ []) → ⊥
 name_on_two_lines lines = false≢true (lines.names 0 (in_mode 0 true []) (omega arith) 0 [] (omega arith))
 
 abbrev ToldOnLines : Iteration → Type 0
 ToldOnLines iteration = All (λ name. IsTrue (is_one_line name)) (names_told iteration)
 
-one_line : StandOnLines no_modes (in_mode 0 false (codes "A:B") ∷ [])
+one_line : StandOnLines setup_without_helm (in_mode 0 false (codes "A:B") ∷ [])
 one_line = record {
   unused = All-nil (λ (unused : Unused). IsTrue (is_one_line unused.name));
   modes = All-cons (λ (iteration : Iteration). IsTrue (is_one_line iteration.mode)) (in_mode 0 false (codes "A:B")) [] refl (All-nil (λ (iteration : Iteration). IsTrue (is_one_line iteration.mode)));

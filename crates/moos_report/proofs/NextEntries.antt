@@ -20,16 +20,17 @@ use Rattle.helm_core.specs.declared.iteration.How.{How}
 use Rattle.helm_core.specs.declared.iteration.How.TheVariants.{Changed, Refused, Spawned}
 use Rattle.helm_core.specs.declared.iteration.Iteration.{Iteration}
 use Rattle.helm_core.specs.declared.iteration.Update.{Update}
+use Rattle.helm_core.specs.Posts.{state_word}
 use Rattle.helm_core.specs.WellFormed.{name_made, names_in_update, names_told}
 use Rattle.moos_report.specs.declared.setup.Setup.{Setup}
 use Rattle.moos_report.specs.Community.{is_one_line, StandOnLines}
-use Rattle.moos_report.specs.IterationLines.{behavior_text, current_text, decided_text, drive_text, error_text, fault_text, helm_fetches, how_text, is_helm_post, iteration_text, listed_text, mode_line, outcome_text, shown_mode, state_line, behavior_state, update_text}
+use Rattle.moos_report.specs.IterationLines.{behavior_text, current_text, decided_text, error_text, fault_text, helm_fetches, how_text, is_helm_post, iteration_text, listed_text, mode_line, outcome_text, shown_mode, state_line, behavior_state, update_text}
 use Rattle.moos_report.specs.Report.{unused_text}
 use Rattle.moos_report.proofs.PassedDecisions.{decided_passed}
 use Rattle.moos_report.proofs.PassedLines.{Clean, clean_line, clean_on, IsPassed, line_passed, names_clean, next_entry, passed_as, passed_each, passed_none, passed_on, unsigned_clean, whole_lacks}
 
 -- fixed words
-driver_clean : (parked : Bool) → Clean (drive_text parked)
+driver_clean : (parked : Bool) → Clean (state_word parked)
 driver_clean true = clean_line (codes "PARK") refl
 driver_clean false = clean_line (codes "DRIVE") refl
 
@@ -115,7 +116,7 @@ iteration_open number stamp driver = simp append_assoc refl
 line_of_state : (number : ℕ) (iteration : Iteration) → IsPassed (state_line number iteration)
 line_of_state number iteration =
     let stamp = unsigned_text iteration.stamp in
-    let driver = drive_text iteration.parked in
+    let driver = state_word iteration.parked in
     passed_as (iteration_open (decimal number) stamp driver)
     (line_passed (codes "%% iteration ") (decimal number ++ 32 ∷ (stamp ++ 32 ∷ driver)) (λ text. refl)
     (blank_clean (decimal number) (stamp ++ 32 ∷ driver) (whole_lacks number) (blank_clean stamp driver (unsigned_clean iteration.stamp) (driver_clean iteration.parked))))

@@ -19,13 +19,14 @@ use Rattle.helm_core.specs.declared.iteration.How.{How}
 use Rattle.helm_core.specs.declared.iteration.How.TheVariants.{Changed, Refused, Spawned}
 use Rattle.helm_core.specs.declared.iteration.Iteration.{Iteration}
 use Rattle.helm_core.specs.declared.iteration.Update.{Update}
+use Rattle.helm_core.specs.Posts.{state_word}
 use Rattle.moos_report.specs.declared.setup.Setup.{Setup}
 
 -- the client has the helm's name
 abbrev pub is_helm : List (List ℕ) → ℕ → Bool
 is_helm names client = bytes_eq (name_of names client) (codes "pHelmIvP")
 
--- the call posts, be it nothing
+-- the call is a post, even of nothing
 abbrev pub is_posting : Call → Bool
 is_posting (Register regs) = false
 is_posting (Unregister var source) = false
@@ -49,10 +50,6 @@ abbrev pub fetches_first : List (List ℕ) → History → Bool
 fetches_first names [] = false
 fetches_first names (entry ∷ later) = is_helm_fetch names entry || (not (is_helm_post names entry) && fetches_first names later)
 
--- whether the vehicle is the helm's to drive
-abbrev pub drive_text : Bool → List ℕ
-drive_text parked = if parked then codes "PARK" else codes "DRIVE"
-
 -- a mode as it prints, the empty one as `-`
 abbrev pub shown_mode : List ℕ → List ℕ
 shown_mode [] = codes "-"
@@ -72,7 +69,7 @@ how_text (Spawned name) = codes "spawned " ++ name
 abbrev pub update_text : Update → List ℕ
 update_text update = concat (codes "%% update " ∷ update.name ∷ codes " " ∷ how_text update.how ∷ codes "\n" ∷ [])
 
--- what a behaviour is
+-- the printed word for the state of a behaviour
 abbrev pub behavior_state : BhvState → List ℕ
 behavior_state Idle = codes "idle"
 behavior_state Running = codes "running"
@@ -83,7 +80,7 @@ behavior_state Completed = codes "completed"
 abbrev pub behavior_text : BhvNow → List ℕ
 behavior_text behavior = concat (codes "%% behavior " ∷ behavior.name ∷ codes " " ∷ behavior_state behavior.state ∷ codes "\n" ∷ [])
 
--- why a behaviour wants all to stop
+-- the printed name of a fault
 abbrev pub fault_text : BhvFault → List ℕ
 fault_text NoPosition = codes "NoPosition"
 fault_text OutsidePolygon = codes "OutsidePolygon"
@@ -102,7 +99,7 @@ decided_text (Some decision) = decision_lines (codes "%% ") decision
 -- the line of an iteration: its number, its stamp in seconds and whether the helm drives
 abbrev pub state_line : ℕ → Iteration → List ℕ
 state_line number iteration =
-    concat (codes "%% iteration " ∷ decimal number ∷ codes " " ∷ unsigned_text iteration.stamp ∷ codes " " ∷ drive_text iteration.parked ∷ codes "\n" ∷ [])
+    concat (codes "%% iteration " ∷ decimal number ∷ codes " " ∷ unsigned_text iteration.stamp ∷ codes " " ∷ state_word iteration.parked ∷ codes "\n" ∷ [])
 
 -- The lines of an iteration: it, the mode, the updates, the behaviours, the faults, and what was decided.
 abbrev pub iteration_text : Setup → ℕ → Iteration → List ℕ
@@ -112,7 +109,7 @@ iteration_text setup number iteration =
     ++ (flat_map update_text iteration.updates
     ++ (flat_map behavior_text iteration.states ++ (flat_map error_text iteration.faults ++ decided_text iteration.decision))))
 
--- the iteration of this number, if there is one
+-- the lines of the iteration of this number, if there is one
 abbrev pub listed_text : Setup → ℕ → Option Iteration → List ℕ
 listed_text setup number None = []
 listed_text setup number (Some iteration) = iteration_text setup number iteration
@@ -123,7 +120,7 @@ iteration_from zero iterations number = slice_get iterations number
 iteration_from (suc first) iterations zero = None
 iteration_from (suc first) iterations (suc number) = iteration_from first iterations number
 
--- The iteration that the helm is in after so many fetches, if the list begins with that of number `first`: with its first
+-- The lines of the iteration that the helm is in after n fetches, if the list begins with that of number `first`: with its first
 -- fetch iteration 0 begins, and what it posts before is part of none.
 abbrev pub current_text : Setup → ℕ → List Iteration → ℕ → List ℕ
 current_text setup first iterations zero = []

@@ -11,7 +11,7 @@ post_lines names history = map (post_text names) (posts_of history)
 abbrev pub IsLineOrNone : List ℕ → List ℕ → Type 0
 IsLineOrNone line text = (line ≡ []) ⊎ (line ≡ text)
 
--- these are kept of the first of these lines, each or nothing in its place
+-- each of the first of these lines is kept as its text, or nothing in its place
 pub record AreLines (texts lines : List (List ℕ)) : Type 0 where
   pub within : length lines ≤ length texts
   pub each : (number : ℕ) (line text : List ℕ) → slice_get lines number ≡ Some line → slice_get texts number ≡ Some text → IsLineOrNone line text

@@ -17,9 +17,9 @@ EndsWithin names past first limit (entry ∷ later) =
     (IsTrue (is_helm_post names entry) → 0 < helm_fetches names past → (first < helm_fetches names past) × (helm_fetches names past ≤ limit))
     × EndsWithin names (past ++ entry ∷ []) first limit later
 
--- The first of so many iterations, which end in this part, has the number `first`: if the helm fetches here before it posts, so
--- often it has fetched before. If it posts first, that ends the iteration whose fetch is before, or is the opening: what
--- is before tells which, and nothing is asked of `first`. Nor is it if no iteration is given.
+-- The first of `many` iterations, which end in this part, has the number `first`: if the helm fetches here before it posts, it
+-- has fetched `first` times before. If it posts first, that ends the iteration whose fetch is before, or is the opening: what is
+-- before tells which, and nothing is asked of `first`. Nor is it if no iteration is given.
 abbrev pub BeginsWith : List (List ℕ) → History → ℕ → ℕ → History → Type 0
 BeginsWith names past first many part = 0 < many → IsTrue (fetches_first names part) → helm_fetches names past ≡ first
 

@@ -52,7 +52,8 @@ letter_text names number (Some post) = concat (codes "%% mail " ∷ decimal numb
 abbrev pub letters_text : List (List ℕ) → List Post → List ℕ → List ℕ
 letters_text names posts mail = flat_map (λ number. letter_text names number (slice_get posts number)) mail
 
--- what an entry asks for, after the name on its line
+-- what an entry asks for, after the name on its line; of a fetch with the letters that the delivery rule gives for the history
+-- before it
 abbrev pub call_text : List (List ℕ) → History → Entry → Call → List ℕ
 call_text names past entry (Register regs) = codes " register\n" ++ flat_map reg_text regs
 call_text names past entry (Unregister var source) =
@@ -68,7 +69,7 @@ entry_text names past entry =
     concat (codes "%% entry " ∷ decimal (length past) ∷ codes " " ∷ unsigned_text entry.stamp ∷ codes " " ∷ name_of names entry.client ∷ [])
     ++ call_text names past entry entry.call
 
--- these entries, if `past` is before them, each with what follows it; the iterations are those from number `first` on
+-- the lines of these entries, if `past` is before them, each with what follows it; the iterations are those from number `first` on
 abbrev pub entries_text : Setup → ℕ → List Iteration → List (List ℕ) → History → History → List ℕ
 entries_text setup first iterations names past [] = []
 entries_text setup first iterations names past (entry ∷ later) =
@@ -125,7 +126,7 @@ pub record Reported : Type 0 where
   pub community : IsCommunity names history
   pub lines : StandOnLines setup iterations
 
--- its report
+-- the report that is printed of a community
 abbrev pub reported_text : Reported → List ℕ
 reported_text one = report_text one.setup one.names one.history one.iterations
 

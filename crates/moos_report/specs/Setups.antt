@@ -2,6 +2,6 @@
 use Rattle.std.specs.Prelude.{[], false}
 use Rattle.moos_report.specs.declared.setup.Setup.{Setup}
 
--- a setup without unused parameters and modes
-abbrev pub no_modes : Setup
-no_modes = record { unused = []; modes = false }
+-- the setup of a community without a helm: no unused parameters, and no modes
+abbrev pub setup_without_helm : Setup
+setup_without_helm = record { unused = []; modes = false }

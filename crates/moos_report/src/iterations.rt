@@ -1,7 +1,8 @@
 // The helm's iterations, each behind the Post entry that it ended in.
 ghost use Rattle.std.specs.Prelude.{◌≡◌, ◌+◌, ◌<◌, ◌≤◌, ◌^◌, [], drop, if◌then◌else◌, take};
 ghost use Rattle.moos_io.specs.Writing.{Wrote, way};
-ghost use Rattle.moos_report.specs.IterationLines.{current_text, decided_text, drive_text, fetches_first, helm_fetches, is_helm, is_helm_fetch, is_helm_post, iteration_text, mode_line, shown_mode, state_line};
+ghost use Rattle.helm_core.specs.Posts.{state_word};
+ghost use Rattle.moos_report.specs.IterationLines.{current_text, decided_text, fetches_first, helm_fetches, is_helm, is_helm_fetch, is_helm_post, iteration_text, mode_line, shown_mode, state_line};
 ghost use Rattle.moos_report.specs.Parts.{BeginsWith};
 
 use super::behaviors::{put_errors, put_states, put_updates};
@@ -198,7 +199,7 @@ fn put_state<K: Sink>(
 }
 
 fn drive_text(parked: bool) -> &'static [u8]
-    ensures { result.now ≡ drive_text parked }
+    ensures { result.now ≡ state_word parked }
 {
     if parked { b"PARK" } else { b"DRIVE" }
 }

@@ -43,7 +43,7 @@ pub use self::parts::{
     report, report_end, report_head, report_keeping, report_part, report_part_through,
 };
 use self::posts::{keep_lines, put_batch, put_fetch};
-pub use self::setup::{Setup, no_modes};
+pub use self::setup::{Setup, setup_without_helm};
 use bhv_file::Unused;
 use helm_core::Iteration;
 use moos_db::Db;

@@ -1,6 +1,6 @@
 // What a report tells of a community's setup.
 ghost use Rattle.std.specs.Prelude.{◌≡◌};
-ghost use Rattle.moos_report.specs.Setups.{no_modes};
+ghost use Rattle.moos_report.specs.Setups.{setup_without_helm};
 
 use bhv_file::UnusedList;
 use moos_post::List;
@@ -16,8 +16,8 @@ pub struct Setup {
 }
 
 /// The setup of a community without a helm: nothing unused, and no modes.
-pub fn no_modes(alloc: Global) -> Setup
-    ensures { result ≡ no_modes }
+pub fn setup_without_helm(alloc: Global) -> Setup
+    ensures { result ≡ setup_without_helm }
 {
     Setup {
         unused: List::new(alloc),

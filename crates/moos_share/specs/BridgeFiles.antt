@@ -30,7 +30,7 @@ abbrev pub rule_with : ℕ → List ℕ → List ℕ → ℕ → Option (List �
 rule_with line var source interval prefix =
     record { reg = record { var = var; source = source; interval = interval }; prefix = prefix; line = line }
 
--- the rule of four words, which are judged from left to right
+-- the rule of four words, judged from left to right: the first is judged on the last line
 abbrev pub rule_from : ℕ → List ℕ → List ℕ → List ℕ → List ℕ → Result Rule Cause
 rule_from line var source interval prefix =
     and_then (λ var.
@@ -48,14 +48,14 @@ rule_of line words =
     if length words == 5 && bytes_eq (word_at 0 words) (codes "share") then rule_from line (word_at 1 words) (word_at 2 words) (word_at 3 words) (word_at 4 words)
     else Err G1
 
--- The rules with that of one line more. It may be one too many, or leave a quote open, before its words are judged.
+-- The rules with that of one more line. It may be one too many, or leave a quote open, before its words are judged.
 abbrev pub with_rule : List Rule → Statement → Result (List Rule) Cause
 with_rule rules said =
     if nat_le 64 (length rules) then Err G6
     else if is_unclosed said.text then Err G1
     else and_then (λ rule. Ok (rules ++ rule ∷ [])) (rule_of said.line (words_of said.text))
 
--- the rules with those of more lines, one after another
+-- the rules with those of some more lines, one after another
 abbrev pub with_rules : List Rule → List Statement → Result (List Rule) ReadFault
 with_rules rules [] = Ok rules
 with_rules rules (said ∷ behind) = and_then (λ more. with_rules more behind) (at_line said.line (with_rule rules said))
@@ -64,7 +64,7 @@ with_rules rules (said ∷ behind) = and_then (λ more. with_rules more behind) 
 abbrev pub rules_of : List ℕ → Result (List Rule) ReadFault
 rules_of bytes = with_rules [] (statements_of bytes)
 
--- What a reader makes of one line more, by its number and its text without blanks at its ends. This serves `reading` alone.
+-- What a reader makes of one more line, by its number and its text without blanks at its ends. This serves `reading` alone.
 abbrev pub after_said : ℕ → List Rule → List ℕ → Result (List Rule) ReadFault
 after_said line rules [] = Ok rules
 after_said line rules (byte ∷ bytes) = at_line line (with_rule rules (record { line = line; text = byte ∷ bytes }))

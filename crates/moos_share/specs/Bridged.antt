@@ -36,17 +36,17 @@ fetches_on first history = fetches_of (names_bridged first) (bridge_number first
 abbrev pub shared_entry : Script → Script → List Rule → MailedFetch → Entry
 shared_entry first second rules one = post_entry (names_bridged first) rules (bridge_number second) one
 
--- one of the lines has this stamp
+-- one of these lines has this stamp
 abbrev pub has_stamp : ℕ → List Entry → Bool
 has_stamp stamp lines = list_any (λ line. line.stamp == stamp) lines
 
--- the numbers rise
+-- each number is above the one before it
 abbrev pub are_rising : List ℕ → Bool
 are_rising [] = true
 are_rising (one ∷ []) = true
 are_rising (one ∷ next ∷ later) = nat_lt one next && are_rising (next ∷ later)
 
--- these are the stamps at which the lines of either script are, each once, in rising order
+-- these are the stamps at which a line of either script makes a call, each once, in rising order
 pub record AreStamps (first second : List Entry) (stamps : List ℕ) : Type 0 where
   pub rising : IsTrue (are_rising stamps)
   pub each : IsTrue (list_all (λ stamp. has_stamp stamp first || has_stamp stamp second) stamps)

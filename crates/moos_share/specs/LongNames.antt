@@ -11,7 +11,8 @@ use Rattle.moos_share.specs.Renaming.{carried_name}
 abbrev pub is_long_with : Rule → List ℕ → Bool
 is_long_with rule var = matches rule.reg.var var && nat_lt 64 (length (carried_name rule var))
 
--- the same of a variable that one of these lines posts
+-- the rule's variable pattern matches a variable that one of these lines posts, whose name has more than 64 bytes with the prefix
+-- before it
 abbrev pub makes_long : List Entry → Rule → Bool
 makes_long lines rule = list_any (λ post. is_long_with rule post.var) (posts_of lines)
 

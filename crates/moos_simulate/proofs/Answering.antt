@@ -14,7 +14,7 @@ use Rattle.moos_post.specs.History.{History}
 use Rattle.moos_client.specs.Calls.{entries_of, entry_of}
 use Rattle.moos_client.specs.Hearing.{Mailed}
 use Rattle.moos_lawful.specs.Answering.{Answerer, answers_of, turns_from}
-use Rattle.moos_lawful.specs.Schedules.{clients_below, entries_below, IsLawfulSoFar, IsPlayable, rises, Schedule}
+use Rattle.moos_lawful.specs.Schedules.{clients_below, entries_below, IsLawfulSoFar, IsPlayable, never_falls, Schedule}
 use Rattle.moos_lawful.proofs.Going.{NoneBefore}
 use Rattle.moos_lawful.proofs.Parts.{either, none_of}
 use Rattle.moos_lawful.proofs.Playable.{is_playable}
@@ -133,7 +133,7 @@ module _ {A : Type 0} (lines : List Entry) (clients stop period : ℕ) (first : 
     part_on s count history later so now stand early below one due =
         part_widened lines clients stop period first others names mailed room s history later so now early below one further
       where
-        turns : (answerer : Answerer A) (n : ℕ) (heard : List A) → clients + 1 ≤ n → (left : ℕ) → left ≡ ticks - count → rises (each * s + 1) (map whole.moment (turns_from answerer n period heard count left)) ≡ true
+        turns : (answerer : Answerer A) (n : ℕ) (heard : List A) → clients + 1 ≤ n → (left : ℕ) → left ≡ ticks - count → never_falls (each * s + 1) (map whole.moment (turns_from answerer n period heard count left)) ≡ true
         turns answerer n heard past zero none = refl
         turns answerer n heard past (suc left) some =
             turns_rise answerer clients (suc (length others)) n period heard count (suc left) (each * s + 1) (low (due (omega (arith, some))))
@@ -141,10 +141,10 @@ module _ {A : Type 0} (lines : List Entry) (clients stop period : ℕ) (first : 
             low : s ≤ count * period → each * s + 1 ≤ each * (count * period) + (suc n - clients)
             low less = let raised : each * s ≤ each * (count * period) = mul-le-mul factor less in omega (arith, raised, past)
 
-        further : (n : ℕ) → clients + 1 ≤ n → n < whole.known → rises (each * s + 1) (map whole.moment (so.left n)) ≡ true
+        further : (n : ℕ) → clients + 1 ≤ n → n < whole.known → never_falls (each * s + 1) (map whole.moment (so.left n)) ≡ true
         further n past known =
             let found = numbered (suc clients) others n (omega (arith, past)) (omega (arith, known)) in
-            subst (λ left. rises (each * s + 1) (map whole.moment left) ≡ true) (sym (stand n found.0 found.1).left) (turns found.0 n (hears whole n so.rest) past (ticks - count) refl)
+            subst (λ left. never_falls (each * s + 1) (map whole.moment left) ≡ true) (sym (stand n found.0 found.1).left) (turns found.0 n (hears whole n so.rest) past (ticks - count) refl)
 
     -- what they have done stays the same
     pub part_stands : (made : ℕ → ℕ) (history later : History) (so : IsLawfulSoFar whole history) (on : IsLawfulSoFar whole (history ++ later)) → clients_below (clients + 1) later ≡ true → Stand made history so → Stand made (history ++ later) on
@@ -171,17 +171,17 @@ module _ {A : Type 0} (lines : List Entry) (clients stop period : ℕ) (first : 
         let above : m ≤ whole.moment x = omega (arith, low, raised, mul-suc each s) in
         and_from (nat_le m (whole.moment x)) (list_all (λ entry. nat_le m (whole.moment entry)) left) (grind (arith, nat_tests, above)) (late_keys s m left low tests.1)
 
-    own_rise : (history : History) (so : IsLawfulSoFar whole history) (n : ℕ) → n < whole.known → rises 0 (map whole.moment (so.left n)) ≡ true
+    own_rise : (history : History) (so : IsLawfulSoFar whole history) (n : ℕ) → n < whole.known → never_falls 0 (map whole.moment (so.left n)) ≡ true
     own_rise history so n below =
         end_rises 0 (map whole.moment (entries_below whole.known so.rest)) (map whole.moment (so.left n))
-        (subst (λ all. rises 0 all ≡ true) (map-append whole.moment (entries_below whole.known so.rest) (so.left n)) (so.moments n below))
+        (subst (λ all. never_falls 0 all ≡ true) (map-append whole.moment (entries_below whole.known so.rest) (so.left n)) (so.moments n below))
 
     -- no entry that is left comes before a moment of this stamp
     none_before : (s m : ℕ) (history : History) (so : IsLawfulSoFar whole history) → m ≤ each * s + each → IsLate s so.left
-        → ((n : ℕ) (answerer : Answerer A) → IsOther n answerer → rises m (map whole.moment (so.left n)) ≡ true) → NoneBefore whole may m so.left
+        → ((n : ℕ) (answerer : Answerer A) → IsOther n answerer → never_falls m (map whole.moment (so.left n)) ≡ true) → NoneBefore whole may m so.left
     none_before s m history so low late rising n below = by (either (nat_lt n (clients + 1)))
       where
-        by : (nat_lt n (clients + 1) ≡ true) ⊎ (nat_lt n (clients + 1) ≡ false) → rises m (map whole.moment (so.left n)) ≡ true
+        by : (nat_lt n (clients + 1) ≡ true) ⊎ (nat_lt n (clients + 1) ≡ false) → never_falls m (map whole.moment (so.left n)) ≡ true
         by (inl e) =
             let here : n < clients + 1 = grind (arith, nat_tests, e) in
             all_rise whole.moment m (so.left n) (late_keys s m (so.left n) low (late n here)) (own_rise history so n below)
@@ -216,13 +216,13 @@ module _ {A : Type 0} (lines : List Entry) (clients stop period : ℕ) (first : 
             subst (λ made. moment_at count n ≤ moment_at made m) (sym (made_from count n m past)) (omega (arith, past))
 
     -- turns that are left rise from a moment that isn't above the first, and with a post of the turn before them too
-    turned_rise : (answerer : Answerer A) (n i m : ℕ) (heard : List A) (left : List Entry) → left ≡ turns_from answerer n period heard i (ticks - i) → m ≤ moment_at i n → rises m (map whole.moment left) ≡ true
-    turned_rise answerer n i m heard left is low = subst (λ left. rises m (map whole.moment left) ≡ true) (sym is) (turns_rise answerer clients (suc (length others)) n period heard i (ticks - i) m low)
+    turned_rise : (answerer : Answerer A) (n i m : ℕ) (heard : List A) (left : List Entry) → left ≡ turns_from answerer n period heard i (ticks - i) → m ≤ moment_at i n → never_falls m (map whole.moment left) ≡ true
+    turned_rise answerer n i m heard left is low = subst (λ left. never_falls m (map whole.moment left) ≡ true) (sym is) (turns_rise answerer clients (suc (length others)) n period heard i (ticks - i) m low)
 
-    posted_rise : (answerer : Answerer A) (n i m : ℕ) (call : Call) (heard : List A) (left : List Entry) → left ≡ entry_of n (i * period) call ∷ turns_from answerer n period heard (suc i) (ticks - suc i) → m ≤ moment_at i n → rises m (map whole.moment left) ≡ true
+    posted_rise : (answerer : Answerer A) (n i m : ℕ) (call : Call) (heard : List A) (left : List Entry) → left ≡ entry_of n (i * period) call ∷ turns_from answerer n period heard (suc i) (ticks - suc i) → m ≤ moment_at i n → never_falls m (map whole.moment left) ≡ true
     posted_rise answerer n i m call heard left is low =
-        subst (λ left. rises m (map whole.moment left) ≡ true) (sym is)
-        (and_from (nat_le m (moment_at i n)) (rises (moment_at i n) (map whole.moment (turns_from answerer n period heard (suc i) (ticks - suc i)))) (grind (arith, nat_tests, low))
+        subst (λ left. never_falls m (map whole.moment left) ≡ true) (sym is)
+        (and_from (nat_le m (moment_at i n)) (never_falls (moment_at i n) (map whole.moment (turns_from answerer n period heard (suc i) (ticks - suc i)))) (grind (arith, nat_tests, low))
         (turns_rise answerer clients (suc (length others)) n period heard (suc i) (ticks - suc i) (moment_at i n) later))
       where
         later : moment_at i n ≤ moment_at (suc i) n
@@ -290,10 +290,10 @@ module _ {A : Type 0} (lines : List Entry) (clients stop period : ℕ) (first : 
             call : Call
             call = Posts (answerer.says (hears whole n so.rest))
 
-            rising : (m : ℕ) (other : Answerer A) → IsOther m other → ((m == n) ≡ true) ⊎ ((m == n) ≡ false) → rises (moment_at count n) (map whole.moment (so.left m)) ≡ true
+            rising : (m : ℕ) (other : Answerer A) → IsOther m other → ((m == n) ≡ true) ⊎ ((m == n) ≡ false) → never_falls (moment_at count n) (map whole.moment (so.left m)) ≡ true
             rising m other at (inl e) =
                 let same : m ≡ n = grind (arith, nat_tests, e) in
-                subst (λ m. rises (moment_at count n) (map whole.moment (so.left m)) ≡ true) (sym same)
+                subst (λ m. never_falls (moment_at count n) (map whole.moment (so.left m)) ≡ true) (sym same)
                 (posted_rise answerer n count (moment_at count n) call (hears whole n so.rest) (so.left n) heard.own.left (omega arith))
             rising m other at (inr e) =
                 turned_rise other m (turns_made count n m) (moment_at count n) (hears whole m so.rest) (so.left m) (heard.rest m other at (λ same. absurd (grind (arith, nat_tests, e, same)))).left (turn_behind count n m high)

@@ -14,7 +14,7 @@ use Rattle.moos_lawful.proofs.Playable.{is_playable}
 use Rattle.moos_lawful.proofs.Stepping.{turns_rise}
 use Rattle.moos_lawful.proofs.Widening.{rises_from}
 use Rattle.moos_lawful.specs.Answering.{Answerer, openings, turns_from}
-use Rattle.moos_lawful.specs.Schedules.{due_in, entries_below, IsLawfulSoFar, rises, Schedule}
+use Rattle.moos_lawful.specs.Schedules.{due_in, entries_below, IsLawfulSoFar, never_falls, Schedule}
 use Rattle.moos_lawful.specs.Widening.{IsWider}
 use Rattle.moos_play.proofs.Turns.{start_is}
 use Rattle.moos_play.specs.Lawful.{heard_of, mailed_in, opening_of, HelmSetup, ticks_to}
@@ -74,25 +74,25 @@ module _ (vehicle : Vehicle) (helm : HelmSetup) (script : Script) (names : List 
         left_is n below = subst (λ rest. due_in alone n rest ≡ entries_of n rest ++ now.left n) none (now.own n below)
 
         -- what the play's own clients are due to do rises by its caller's measure too
-        own_rises : (n : ℕ) → n < length script.names + 1 → rises 0 (map whole.moment (whole.due n [])) ≡ true
+        own_rises : (n : ℕ) → n < length script.names + 1 → never_falls 0 (map whole.moment (whole.due n [])) ≡ true
         own_rises n below =
-            subst (λ left. rises 0 (map whole.moment left) ≡ true) (sym (left_is n below) ∙ (λ i. (sym (is_wider.due n below)) i []))
+            subst (λ left. never_falls 0 (map whole.moment left) ≡ true) (sym (left_is n below) ∙ (λ i. (sym (is_wider.due n below)) i []))
             (rises_from (λ entry. nat_lt entry.client (length script.names + 1)) alone.moment whole.moment is_wider.keeps 0 (now.left n)
             (left_own alone (is_playable Stamp script.lines (length script.names) script.stop helm.period (answering helm ∷ []) (length names) (mailed_in names) (omega (arith, room))) n (length script.names + 1) below [] [] (now.left n) (left_is n below))
-            (all_from whole.moment (now.left n)) (subst (λ rest. rises 0 (map alone.moment (entries_below alone.known rest ++ now.left n)) ≡ true) none (now.moments n below)))
+            (all_from whole.moment (now.left n)) (subst (λ rest. never_falls 0 (map alone.moment (entries_below alone.known rest ++ now.left n)) ≡ true) none (now.moments n below)))
 
         due_aboard : (n : ℕ) (answerer : Answerer Tick) → IsAboard n answerer → whole.due n [] ≡ turns_from answerer n helm.period [] 0 (ticks_to script.stop helm)
         due_aboard n answerer is = due_other script.lines (length script.names) script.stop helm.period (answering helm) (vehicle_clients vehicle.gear helm.period) (length names) (mailed_in names) room some n answerer is []
 
-        sorted : (n : ℕ) → n < whole.known → rises 0 (map whole.moment (whole.due n [])) ≡ true
+        sorted : (n : ℕ) → n < whole.known → never_falls 0 (map whole.moment (whole.due n [])) ≡ true
         sorted n below = by (either (nat_lt n (length script.names + 1)))
           where
-            by : (nat_lt n (length script.names + 1) ≡ true) ⊎ (nat_lt n (length script.names + 1) ≡ false) → rises 0 (map whole.moment (whole.due n [])) ≡ true
+            by : (nat_lt n (length script.names + 1) ≡ true) ⊎ (nat_lt n (length script.names + 1) ≡ false) → never_falls 0 (map whole.moment (whole.due n [])) ≡ true
             by (inl e) = own_rises n (grind (arith, nat_tests, e))
             by (inr e) =
                 let past : length script.names + 1 ≤ n = grind (arith, nat_tests, e) in
                 let found = numbered (pid_number script) (vehicle_clients vehicle.gear helm.period) n (omega (arith, past)) (omega (arith, below)) in
-                subst (λ due. rises 0 (map whole.moment due) ≡ true) (sym (due_aboard n found.0 found.1))
+                subst (λ due. never_falls 0 (map whole.moment due) ≡ true) (sym (due_aboard n found.0 found.1))
                 (turns_rise found.0 (length script.names) (suc (length (vehicle_clients vehicle.gear helm.period))) n helm.period [] 0 (ticks_to script.stop helm) 0 (omega arith))
 
         -- nothing but the openings stands, and all is left

@@ -14,7 +14,7 @@ use Rattle.moos_client.specs.Calls.{entries_of}
 use Rattle.moos_client.specs.Hearing.{heard_in, Mailed}
 use Rattle.moos_client.proofs.Hearing.{heard_append, heard_none}
 use Rattle.moos_lawful.specs.Answering.{Answerer, schedule_of}
-use Rattle.moos_lawful.specs.Schedules.{clients_below, due_in, entries_below, IsLawfulSoFar, IsPlayable, rises, Schedule}
+use Rattle.moos_lawful.specs.Schedules.{clients_below, due_in, entries_below, IsLawfulSoFar, IsPlayable, never_falls, Schedule}
 use Rattle.moos_lawful.specs.Widening.{IsBounded, IsWider}
 use Rattle.moos_lawful.proofs.Further.{is_wider}
 use Rattle.moos_lawful.proofs.Parts.{below_kept}
@@ -26,19 +26,19 @@ use Rattle.script_reader.specs.declared.script.Order.TheVariants.{Stamp}
 -- ---- numbers that rise
 
 -- a number behind others that aren't above it
-rises_end : (low k : ℕ) (ns : List ℕ) → low ≤ k → rises low ns ≡ true → list_all (λ n. nat_le n k) ns ≡ true → rises low (ns ++ k ∷ []) ≡ true
+rises_end : (low k : ℕ) (ns : List ℕ) → low ≤ k → never_falls low ns ≡ true → list_all (λ n. nat_le n k) ns ≡ true → never_falls low (ns ++ k ∷ []) ≡ true
 rises_end low k [] less h most = and_from (nat_le low k) true (grind (arith, nat_tests, less)) refl
 rises_end low k (n ∷ ns) less h most =
-    let parts = and_parts (nat_le low n) (rises n ns) h in
+    let parts = and_parts (nat_le low n) (never_falls n ns) h in
     let tests = and_parts (nat_le n k) (list_all (λ n. nat_le n k) ns) most in
     let here = tests.0 in
-    and_from (nat_le low n) (rises n (ns ++ k ∷ [])) parts.0 (rises_end n k ns (grind (arith, nat_tests, here)) parts.1 tests.1)
+    and_from (nat_le low n) (never_falls n (ns ++ k ∷ [])) parts.0 (rises_end n k ns (grind (arith, nat_tests, here)) parts.1 tests.1)
 
 -- what rises from a number has nothing below it, and the other way round
-rises_all : (key : Entry → ℕ) (low : ℕ) (xs : List Entry) → rises low (map key xs) ≡ true → list_all (λ x. nat_le low (key x)) xs ≡ true
+rises_all : (key : Entry → ℕ) (low : ℕ) (xs : List Entry) → never_falls low (map key xs) ≡ true → list_all (λ x. nat_le low (key x)) xs ≡ true
 rises_all key low [] h = refl
 rises_all key low (x ∷ xs) h =
-    let parts = and_parts (nat_le low (key x)) (rises (key x) (map key xs)) h in
+    let parts = and_parts (nat_le low (key x)) (never_falls (key x) (map key xs)) h in
     let here = parts.0 in
     and_from (nat_le low (key x)) (list_all (λ x. nat_le low (key x)) xs) here (raise (grind (arith, nat_tests, here)) xs (rises_all key (key x) xs parts.1))
   where
@@ -49,19 +49,19 @@ rises_all key low (x ∷ xs) h =
         let first = tests.0 in
         and_from (nat_le low (key y)) (list_all (λ x. nat_le low (key x)) ys) (grind (arith, nat_tests, less, first)) (raise less ys tests.1)
 
-pub all_rise : (key : Entry → ℕ) (low : ℕ) (xs : List Entry) → list_all (λ x. nat_le low (key x)) xs ≡ true → rises 0 (map key xs) ≡ true → rises low (map key xs) ≡ true
+pub all_rise : (key : Entry → ℕ) (low : ℕ) (xs : List Entry) → list_all (λ x. nat_le low (key x)) xs ≡ true → never_falls 0 (map key xs) ≡ true → never_falls low (map key xs) ≡ true
 all_rise key low [] all h = refl
 all_rise key low (x ∷ xs) all h =
-    and_from (nat_le low (key x)) (rises (key x) (map key xs)) (and_parts (nat_le low (key x)) (list_all (λ x. nat_le low (key x)) xs) all).0 (and_parts (nat_le 0 (key x)) (rises (key x) (map key xs)) h).1
+    and_from (nat_le low (key x)) (never_falls (key x) (map key xs)) (and_parts (nat_le low (key x)) (list_all (λ x. nat_le low (key x)) xs) all).0 (and_parts (nat_le 0 (key x)) (never_falls (key x) (map key xs)) h).1
 
 -- what stands behind an entry isn't before it
-behind_one : (key : Entry → ℕ) (front : List Entry) (x : Entry) (more left : List Entry) → rises 0 (map key ((front ++ x ∷ more) ++ left)) ≡ true → rises (key x) (map key left) ≡ true
+behind_one : (key : Entry → ℕ) (front : List Entry) (x : Entry) (more left : List Entry) → never_falls 0 (map key ((front ++ x ∷ more) ++ left)) ≡ true → never_falls (key x) (map key left) ≡ true
 behind_one key front x more left h =
     suffix_rises (key x) (map key more) (map key left)
-    (subst (λ all. rises (key x) all ≡ true) (map-append key more left)
-    (and_parts (nat_le 0 (key x)) (rises (key x) (map key (more ++ left)))
+    (subst (λ all. never_falls (key x) all ≡ true) (map-append key more left)
+    (and_parts (nat_le 0 (key x)) (never_falls (key x) (map key (more ++ left)))
     (suffix_rises 0 (map key front) (map key (x ∷ (more ++ left)))
-    (subst (λ all. rises 0 all ≡ true) (ap (map key) (append_assoc front (x ∷ more) left) ∙ map-append key front (x ∷ (more ++ left))) h))).1)
+    (subst (λ all. never_falls 0 all ≡ true) (ap (map key) (append_assoc front (x ∷ more) left) ∙ map-append key front (x ∷ (more ++ left))) h))).1)
 
 -- nobody below a number is among entries of clients from it on
 none_under : (known n : ℕ) (xs : History) → n < known → list_all (λ entry. nat_le known entry.client) xs ≡ true → entries_of n xs ≡ []
@@ -186,7 +186,7 @@ module _ {A : Type 0} (lines : List Entry) (clients stop period : ℕ) (first : 
 
     -- A PART OF ONE STAMP that is later than all so far, and not later than the further clients' next turns
     pub part_widened : (s : ℕ) (history later : History) (so : IsLawfulSoFar long history) → IsLawfulSoFar short (history ++ later) → list_all (λ entry. nat_lt entry.stamp s) so.rest ≡ true
-        → clients_below (clients + 1) later ≡ true → list_all (λ entry. entry.stamp == s) later ≡ true → ((n : ℕ) → clients + 1 ≤ n → n < long.known → rises (each * s + 1) (map long.moment (so.left n)) ≡ true)
+        → clients_below (clients + 1) later ≡ true → list_all (λ entry. entry.stamp == s) later ≡ true → ((n : ℕ) → clients + 1 ≤ n → n < long.known → never_falls (each * s + 1) (map long.moment (so.left n)) ≡ true)
         → IsLawfulSoFar long (history ++ later)
     part_widened s history [] so now early below one further = subst (IsLawfulSoFar long) (sym (append-nil history)) so
     part_widened s history (x ∷ more) so now early below one further = widened short long may_short wider history later so now bounds
@@ -203,11 +203,11 @@ module _ {A : Type 0} (lines : List Entry) (clients stop period : ℕ) (first : 
             (sym now.opened ∙ ap (λ history. history ++ later) (so.opened ∙ ap (λ start. start ++ so.rest) wider.start) ∙ append_assoc (short.start ++ wider.openings) so.rest later ∙ append_assoc short.start wider.openings (so.rest ++ later))
             ∙ sym (append_assoc wider.openings so.rest later)
 
-        before : rises 0 (map long.moment (entries_below long.known so.rest) ++ each * s ∷ []) ≡ true
+        before : never_falls 0 (map long.moment (entries_below long.known so.rest) ++ each * s ∷ []) ≡ true
         before =
             rises_end 0 (each * s) (map long.moment (entries_below long.known so.rest)) (omega arith)
             (front_rises 0 (map long.moment (entries_below long.known so.rest)) (map long.moment (so.left 0))
-            (subst (λ all. rises 0 all ≡ true) (map-append long.moment (entries_below long.known so.rest) (so.left 0)) (so.moments 0 some)))
+            (subst (λ all. never_falls 0 all ≡ true) (map-append long.moment (entries_below long.known so.rest) (so.left 0)) (so.moments 0 some)))
             (early_moments s so.rest early)
 
         first_stamp : 2 * s ≤ short.moment x
@@ -221,9 +221,9 @@ module _ {A : Type 0} (lines : List Entry) (clients stop period : ℕ) (first : 
         left : (n : ℕ) → n < clients + 1 → list_all (λ entry. nat_le (each * s) (long.moment entry)) (now.left n) ≡ true
         left n under =
             late_moments s (now.left n) (left_own short may_short n (clients + 1) under (heard_in short.mailed n short.start now.rest) (entries_of n now.rest) (now.left n) (now.own n under))
-            (rises_all short.moment (2 * s) (now.left n) (lowered (behind_one short.moment (entries_below (clients + 1) (wider.openings ++ so.rest)) x more (now.left n) (subst (λ all. rises 0 (map short.moment (all ++ now.left n)) ≡ true) cut (now.moments n under)))))
+            (rises_all short.moment (2 * s) (now.left n) (lowered (behind_one short.moment (entries_below (clients + 1) (wider.openings ++ so.rest)) x more (now.left n) (subst (λ all. never_falls 0 (map short.moment (all ++ now.left n)) ≡ true) cut (now.moments n under)))))
           where
-            lowered : rises (short.moment x) (map short.moment (now.left n)) ≡ true → rises (2 * s) (map short.moment (now.left n)) ≡ true
+            lowered : never_falls (short.moment x) (map short.moment (now.left n)) ≡ true → never_falls (2 * s) (map short.moment (now.left n)) ≡ true
             lowered h = lower (2 * s) (short.moment x) (map short.moment (now.left n)) first_stamp h
 
         bounds : IsBounded short long history later so now

@@ -23,7 +23,7 @@ use Rattle.sim_clients.specs.Keeping.{IsMgrAfter, IsPidAfter, IsSimAfter}
 abbrev pub hears : {A : Type 0} → Schedule A → ℕ → History → List A
 hears schedule n rest = heard_in schedule.mailed n schedule.start rest
 
--- a client that answers has made so many of its turns, and the others are left
+-- a client that answers has made `count` of its turns, and the others are left
 pub record HasMadeTurns {A : Type 0} (schedule : Schedule A) (answerer : Answerer A) (n period ticks count : ℕ) (history : History) (so : IsLawfulSoFar schedule history) : Type 0 where
   pub many : length (hears schedule n so.rest) ≡ count
   pub few : count ≤ ticks
@@ -67,7 +67,7 @@ pub record KeepMails (vehicle : Vehicle) (helm : HelmSetup) (script : Script) (n
   pub sim : IsSimAfter vehicle.gear.craft helm.period (mails_of script helm vehicle.gear names (sim_number script) so.rest) vehicle.sim
   pub mgr : KeepsContacts vehicle.gear.ranges (mails_of script helm vehicle.gear names (mgr_number script) so.rest) vehicle.mgr
 
--- A history that is that of a simulated vehicle as far as it goes, in which each client of the vehicle has made so many turns and
+-- A history that is that of a simulated vehicle as far as it goes, in which each client of the vehicle has made `count` turns and
 -- keeps what these come to. Unless nothing is left, it has no entry of the next stamp yet.
 pub record IsUnderSail (vehicle : Vehicle) (helm : HelmSetup) (script : Script) (names : List (List ℕ)) (count left next : ℕ) (history : History) : Type 0 where
   pub so_far : IsLawfulSoFar (schedule_simulated script (Some helm) vehicle.gear names) history
@@ -128,7 +128,7 @@ pub record IsRoundBeside (before after : Playing) (round : Round) : Type 0 where
   pub turn : IsTurn before after round
   pub iterations : iterations_made after ≡ iterations_made before ++ round.iterations
 
--- A play beside a vehicle that may yet be completed: with some entries more its history is that of a simulated vehicle, and the
+-- A play beside a vehicle that may yet be completed: with some more entries its history is that of a simulated vehicle, and the
 -- iterations of that history are those so far and some more.
 pub record HasVoyage (gear : Gear) (play : Playing) : Type 0 where
   pub rest : History

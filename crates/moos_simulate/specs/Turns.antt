@@ -31,7 +31,7 @@ HasSaid client stamp said before after = history_in after ≡ (history_in before
 abbrev pub HasHeardAtMost : ℕ → ℕ → Playing → Playing → Type 0
 HasHeardAtMost client stamp before after = (history_in after ≡ history_in before) ⊎ (history_in after ≡ history_in before ++ entry_of client stamp Fetch ∷ [])
 
--- how many turns the client of a number has made, if the clients below another number have answered one tick more than so many
+-- how many turns the client of a number has made, if each of the vehicle's clients has made `count`, and those below `next` one more
 abbrev pub turns_made : ℕ → ℕ → ℕ → ℕ
 turns_made count next client = if nat_lt client next then suc count else count
 

@@ -29,6 +29,6 @@ pub record ToldFront (MayBe : List ℕ → Type 0) (sink : Sinking) : Type 0 whe
 -- if the sink failed, or nothing or a front if no memory was left
 abbrev pub Tells : (List ℕ → Type 0) → Sinking → Status → Type 0
 Tells MayBe sink Done = ToldAll MayBe sink
-Tells MayBe sink WriteFault = ToldFront MayBe sink × Fell sink.faults_before sink.faults_after sink.taken_after
+Tells MayBe sink WriteFault = ToldFront MayBe sink × Fell sink.fared_before sink.fared_after sink.taken_after
 Tells MayBe sink NoMemory = IsUntouched sink ⊎ ToldFront MayBe sink
 Tells MayBe sink status = ⊥

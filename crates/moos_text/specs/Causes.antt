@@ -4,7 +4,7 @@ use Rattle.moos_text.specs.declared.cause.Cause.{Cause}
 use Rattle.moos_text.specs.declared.cause.Cause.TheVariants.{S1, S2, S3, S4, S5, S6, S7, S8, S9, S10, S11, M1, M2, M3, M4, M5, M6, M7, M8, B1, B2, B3, B4, B5, B6, B7, B8, B9, B10, B11, P1, P2, P3, P4, P5, P6, P7, P8, P9, P10, G1, G2, G3, G4, G5, G6, V1, V2, C1, C2, C3}
 use Rattle.moos_text.specs.declared.cause.Limit.TheVariants.{Clients, Registrations, Variables, Lines, Batch, Text}
 
--- its letter and number, a space and its name; that of a limit is the limit's
+-- the printed name of a cause: its letter and number, a space and its name; that of a limit is the limit's
 abbrev pub cause_text : Cause → List ℕ
 cause_text S1 = codes "S1 BadStamp"
 cause_text S2 = codes "S2 StampGoesBack"

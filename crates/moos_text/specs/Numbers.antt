@@ -11,7 +11,7 @@ digits_value digits = fold (λ value digit. value * 10 + (digit - 48)) 0 digits
 abbrev pub thousandths_of : List ℕ → List ℕ → ℕ
 thousandths_of whole decimals = digits_value whole * 1000 + digits_value (take 3 (decimals ++ codes "000"))
 
--- the whole part and the decimals of a number: digits both, one at least in all, of a value of at most so many thousandths
+-- the whole part and the decimals of a number: digits both, one at least in all, of a value of at most `most` thousandths
 abbrev pub is_numeral : ℕ → List ℕ → List ℕ → Bool
 is_numeral most whole decimals =
     list_all is_digit whole && list_all is_digit decimals && nat_le 1 (length whole + length decimals)
@@ -21,14 +21,14 @@ is_numeral most whole decimals =
 abbrev pub point_place : List ℕ → ℕ
 point_place text = position_or_len (λ byte. byte == 46) text
 
--- a number without a sign, of at most so many thousandths: digits with at most one point
+-- a number without a sign, of at most `most` thousandths: digits with at most one point
 abbrev pub unsigned_within : ℕ → List ℕ → Option ℕ
 unsigned_within most text =
     let whole = take (point_place text) text in
     let decimals = drop (suc (point_place text)) text in
     if is_numeral most whole decimals then Some (thousandths_of whole decimals) else None
 
--- one of at most 10^12 thousandths
+-- a number without a sign, of at most 10^12 thousandths
 abbrev pub unsigned_of : List ℕ → Option ℕ
 unsigned_of text = unsigned_within (10 ^ 12) text
 
@@ -45,7 +45,8 @@ abbrev pub whole_part : ℤ → Option ℕ
 whole_part (pos n) = if n % 1000 == 0 then Some (n / 1000) else None
 whole_part (negsuc n) = None
 
--- the whole number, not below zero, that a text stands for: a number without thousandths
+-- the whole number, not below zero, that a text stands for: a number without thousandths; as in every number further decimals are
+-- dropped, so `12.0004` is 12
 abbrev pub whole_of : List ℕ → Option ℕ
 whole_of text = option_and_then whole_part (milli_of text)
 
@@ -61,7 +62,7 @@ decimals_text rest =
     else if rest % 10 == 0 then codes "." ++ digit_text (rest / 100) ++ digit_text (rest / 10 % 10)
     else codes "." ++ digit_text (rest / 100) ++ digit_text (rest / 10 % 10) ++ digit_text (rest % 10)
 
--- thousandths without a sign as they print: the whole part without leading zeros, and the decimals that aren't 0
+-- thousandths without a sign as they print: the whole part without leading zeros, and the decimals without trailing zeros
 abbrev pub unsigned_text : ℕ → List ℕ
 unsigned_text n = decimal (n / 1000) ++ decimals_text (n % 1000)
 

@@ -19,7 +19,7 @@ pub record Sides : Type 0 where
   pub name : List ℕ
   pub value : List ℕ
 
--- both sides of the first `=`, if there is one
+-- what is on both sides of the first `=` of a text, if there is one
 abbrev pub sides_of : List ℕ → Option Sides
 sides_of text =
     if nat_lt (position_or_len is_equals text) (length text)
@@ -37,7 +37,7 @@ text_value bytes =
     else if nat_lt 4096 (length bytes) then Err TooLong
     else Ok (Text bytes)
 
--- what follows a `"` is a text up to another `"`, which is the last byte and has no third before it
+-- what follows a `"`: a text and then a `"`, which is the last byte and the only other one
 abbrev pub quoted_value : List ℕ → Result Value PairFault
 quoted_value rest =
     if position_or_len is_quote rest + 1 == length rest then text_value (before_first is_quote rest) else Err BadValue

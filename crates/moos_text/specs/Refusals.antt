@@ -21,7 +21,7 @@ abbrev pub fault_at : ℕ → LineFault → ReadFault
 fault_at line (Refused cause) = At line cause
 fault_at line OutOfMemory = NoMemory
 
--- what comes of a good value, or the refusal
+-- what is made of a good value, or the refusal; if one call is in another, the text reads from its last line up
 abbrev pub and_then : {A B E : Type 0} → (A → Result B E) → Result A E → Result B E
 and_then next (Ok value) = next value
 and_then next (Err fault) = Err fault

@@ -18,7 +18,7 @@ abbrev pub stated : ℕ → List ℕ → List Statement → List Statement
 stated line [] behind = behind
 stated line (byte ∷ bytes) behind = record { line = line; text = byte ∷ bytes } ∷ behind
 
--- the lines that say something, if so many lines are before them: what counts of each, without blanks at its ends
+-- the lines that say something, if `before` lines are before them: what counts of each, without blanks at its ends
 abbrev pub statements_from : ℕ → List (List ℕ) → List Statement
 statements_from before [] = []
 statements_from before (raw ∷ raws) = stated (suc before) (trimmed (content_of raw)) (statements_from (suc before) raws)
@@ -33,8 +33,8 @@ pub data Section : Type 0 where
   Loose : Statement → Section
   Block : Statement → List Statement → Option Statement → Section
 
--- the sections that lines make, by which of them opens a block and which closes one; so many at the front belong to a
--- block before them
+-- the sections that lines make, by which of them opens a block and which closes one; the first `before` lines belong to a block
+-- before them
 abbrev pub sections_of : (List ℕ → Bool) → (List ℕ → Bool) → ℕ → List Statement → List Section
 sections_of opens closes before [] = []
 sections_of opens closes (suc before) (said ∷ behind) = sections_of opens closes before behind
@@ -80,7 +80,8 @@ behind_brace form last (said ∷ behind) close = if bytes_eq said.text (codes "{
 abbrev pub in_braces : {W B : Type 0} → Form W B → ℕ → Statement → List Statement → Option Statement → Result (List Statement) ReadFault
 in_braces form last head lines close = if ends_with 123 head.text then Ok lines else behind_brace form last lines close
 
--- what is made of a section, in a file with this last line
+-- what is made of a section, in a file with this last line; of a block from the last line up: what opens it, its braces, its
+-- lines, what closes it
 abbrev pub with_section : {W B : Type 0} → Form W B → ℕ → W → Section → Result W ReadFault
 with_section form last whole (Loose said) = made_of form.bad form.loose whole said
 with_section form last whole (Block head lines close) =

@@ -17,7 +17,7 @@ pub data Standing (W B : Type 0) : Type 0 where
 abbrev pub behind_head : {W B : Type 0} → List ℕ → B → Standing W B
 behind_head text block = if ends_with 123 text then Inside block else Opened block
 
--- one line more
+-- where a reader is after one more line, which says something
 abbrev pub after_statement : {W B : Type 0} → Form W B → Standing W B → Statement → Result (Standing W B) Cause
 after_statement form (Outside whole) said =
     if form.opens said.text then and_then (λ block. Ok (behind_head said.text block)) (form.begin whole said)
@@ -27,12 +27,12 @@ after_statement form (Inside block) said =
     if form.closes said.text then and_then (λ whole. Ok (Outside whole)) (form.close block said)
     else and_then (λ more. Ok (Inside more)) (form.inside block said)
 
--- one line more by its number and its text, which says nothing if it is blank
+-- where a reader is after one more line, by its number and its text, which says nothing if it is blank
 abbrev pub after_text : {W B : Type 0} → Form W B → ℕ → Standing W B → List ℕ → Result (Standing W B) ReadFault
 after_text form line standing [] = Ok standing
 after_text form line standing (byte ∷ bytes) = made_of form.bad (after_statement form) standing (record { line = line; text = byte ∷ bytes })
 
--- the same by what stands on the line
+-- where a reader is after one more line, by its number and its bytes
 abbrev pub after_raw : {W B : Type 0} → Form W B → ℕ → Standing W B → List ℕ → Result (Standing W B) ReadFault
 after_raw form line standing raw = after_text form line standing (trimmed (content_of raw))
 
@@ -42,7 +42,7 @@ at_end form last (Outside whole) = Ok whole
 at_end form last (Opened block) = Err (At last form.unclosed)
 at_end form last (Inside block) = Err (At last form.unclosed)
 
--- What lines come to one after another, from a state on, if so many are before them.
+-- What lines come to one after another, from a state on, if `before` lines are before them.
 abbrev pub read_lines : {S : Type 0} → (ℕ → S → List ℕ → Result S ReadFault) → ℕ → S → List (List ℕ) → Result S ReadFault
 read_lines after before state [] = Ok state
 read_lines after before state (raw ∷ raws) = and_then (λ next. read_lines after (suc before) next raws) (after (suc before) state raw)

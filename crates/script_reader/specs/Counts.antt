@@ -33,7 +33,7 @@ with_made made client call = if is_register call then slice_set made client (sli
 abbrev pub with_name : Script → List ℕ → Script
 with_name script client = record script { names = with_client script.names client }
 
--- the script with a call more, of the client of this number
+-- the script with one more call, of the client of this number
 abbrev pub with_call : Script → ℕ → ℕ → Call → Script
 with_call script stamp number call = record {
   names = script.names;

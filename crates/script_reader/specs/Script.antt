@@ -50,14 +50,14 @@ abbrev pub source_of : List ℕ → Option (List ℕ)
 source_of [] = Some (codes "*")
 source_of (byte ∷ bytes) = pattern_of (byte ∷ bytes)
 
--- a registration of these three, or the cause of the first of them that is missing
+-- a registration of these three, or the cause of the first of them that isn't good
 abbrev pub reg_of : Option (List ℕ) → Option ℕ → Option (List ℕ) → Result Reg Cause
 reg_of None interval source = Err S6
 reg_of (Some var) None source = Err S7
 reg_of (Some var) (Some interval) None = Err S6
 reg_of (Some var) (Some interval) (Some source) = Ok (record { var = var; source = source; interval = interval })
 
--- one registration more of a client that has made so many
+-- one more registration of a client that has made `made`
 abbrev pub register_one : ℕ → Reg → Result Call Cause
 register_one made reg = if nat_le 256 made then Err (S8 Registrations) else Ok (Register (reg ∷ []))
 
@@ -71,7 +71,7 @@ register_of made words =
     let reg = reg_of (pattern_of (word_at 0 words)) (interval_of (word_at 1 words)) (source_of (word_at 2 words)) in
     and_then (λ call. with_none_behind call (word_at 3 words)) (and_then (register_one made) reg)
 
--- a withdrawal of these two, or the cause of the first of them that is missing
+-- a withdrawal of these two, or the cause of the first of them that isn't good
 abbrev pub withdrawal_of : Option (List ℕ) → Option (List ℕ) → Result Call Cause
 withdrawal_of None source = Err S6
 withdrawal_of (Some var) None = Err S6
@@ -81,7 +81,7 @@ withdrawal_of (Some var) (Some source) = Ok (Unregister var source)
 abbrev pub unregister_of : List (List ℕ) → Result Call Cause
 unregister_of words = and_then (λ call. with_none_behind call (word_at 2 words)) (withdrawal_of (pattern_of (word_at 0 words)) (source_of (word_at 1 words)))
 
--- why a pair is refused; want of memory is no fault of a text
+-- why a pair is refused; no text has the fault NoMemory, so its case is never used
 abbrev pub cause_of : PairFault → Cause
 cause_of NoEquals = S5
 cause_of BadName = S4
@@ -107,16 +107,16 @@ pub record Posting : Type 0 where
   pub variables : List (List ℕ)
   pub pairs : List Pair
 
--- these variables and these pairs
+-- a post so far, of these variables and these pairs
 abbrev pub posting : List (List ℕ) → List Pair → Posting
 posting variables pairs = record { variables = variables; pairs = pairs }
 
--- a variable more, which may be one too many if it is new
+-- the variables that are posted, with one more; a new one may be too many
 abbrev pub with_known : List (List ℕ) → List ℕ → Result (List (List ℕ)) Cause
 with_known known var =
     if not (list_any (bytes_eq var) known) && nat_le 4096 (length known) then Err (S8 Variables) else Ok (with_variable known var)
 
--- a pair more, which may be one too many
+-- a post with one more pair, which may be too many
 abbrev pub with_pair : Posting → Pair → Result Posting Cause
 with_pair post pair =
     if nat_le 64 (length post.pairs) then Err (S8 InBatch)
@@ -146,7 +146,7 @@ is_register Fetch = false
 abbrev pub registrations_of : ℕ → List Entry → ℕ
 registrations_of client lines = count_by (λ line. line.client == client && is_register line.call) lines
 
--- what the words after the client ask for, if the client has made so many registrations and these variables are posted
+-- what the words after the client ask for, if the client has made `made` registrations and these variables are posted
 abbrev pub call_of : ℕ → List (List ℕ) → List ℕ → Result Call Cause
 call_of made known text =
     let verb = first_word text in
@@ -173,7 +173,7 @@ client_of names word =
     else if nat_le 64 (client_number names word) then Err (S8 Clients)
     else Ok (client_number names word)
 
--- the script with a client's call more
+-- the script with one more call of a client
 abbrev pub with_client_call : Script → ℕ → List ℕ → Call → Script
 with_client_call script stamp client call = record {
   names = with_client script.names client;
@@ -198,7 +198,7 @@ after_stamp script text stamp =
 abbrev pub not_before : ℕ → ℕ → Result ℕ Cause
 not_before last stamp = if nat_lt stamp last then Err S2 else Ok stamp
 
--- the script after the words of one line more
+-- the script after the words of one more line
 abbrev pub after_line_words : Script → List ℕ → Result Script Cause
 after_line_words script text =
     and_then (after_stamp script (behind_word text)) (and_then (not_before script.stop) (ok_or (time_of (first_word text)) S1))
@@ -208,7 +208,7 @@ pub record Progress : Type 0 where
   pub script : Script
   pub filled : ℕ
 
--- this script, of so many lines that weren't blank
+-- this script, of `filled` lines that weren't blank
 abbrev pub progress : Script → ℕ → Progress
 progress script filled = record { script = script; filled = filled }
 
@@ -219,7 +219,7 @@ after_filled read content =
     else if is_unclosed content then Err S5
     else and_then (λ script. Ok (progress script (suc read.filled))) (after_line_words read.script content)
 
--- one line more, of which this is the first word; a blank line says nothing
+-- what is read after one more line, of which this is the first word; a blank line says nothing
 abbrev pub after_line : Progress → List ℕ → List ℕ → Result Progress Cause
 after_line read content [] = Ok read
 after_line read content (byte ∷ bytes) = after_filled read content

@@ -31,9 +31,9 @@ are_lines clients last stop [] = nat_le last stop
 are_lines clients last stop (line ∷ lines) =
     nat_lt line.client clients && nat_le last line.stamp && keeps_limits line.call && are_lines clients line.stamp stop lines
 
--- Its clients have names of their own, none the helm's. Each line is an entry by one of them, and stamps don't go back.
--- Every limit is kept: stamps and intervals of 1,000,000 seconds, 64 clients, 100,000 lines, 256 registrations of a client,
--- 64 pairs of a post, which has one at least, 4,096 variables.
+-- A script's clients have names of their own, none the helm's. Each line is an entry by one of them, and stamps don't go back.
+-- Every limit is kept: stamps and intervals of 1,000,000 seconds, 64 clients, 100,000 lines, 256 registrations of a client, 64
+-- pairs of a post, which has one at least, 4,096 variables.
 pub record IsValid (script : Script) : Type 0 where
   pub named : All (λ name. IsTrue (is_name name)) script.names
   pub clients : IsTrue (are_clients script.names)

@@ -15,7 +15,8 @@ pub record Frame : Type 0 where
   pub node : Node
   pub next : ℕ
 
--- a worker: the sum that it knows, the greatest key that it found, its deque, its hand with the top frame first, and the nodes that it is done with
+-- a worker: the sum that it knows, the greatest key that it found, its deque, its hand with the top frame first, and the nodes
+-- that it is done with
 pub record CoreWorker : Type 0 where
   pub low : ℕ
   pub own : Option Key
@@ -40,7 +41,7 @@ frame_passed frame = record { node = frame.node; next = frame.next + 1 }
 abbrev pub holder_of : List Frame → CoreWorker
 holder_of hand = record { low = 0; own = None; deque = []; hand = hand; done = [] }
 
--- the start: worker 0 holds the root, and so many others hold nothing
+-- the start: worker 0 holds the root, and `others` further ones hold nothing
 abbrev pub start_of : WeightedSum → ℕ → Core
 start_of problem others = record { word = 0; members = holder_of (fresh (root_of problem) ∷ []) ∷ replicate others (holder_of []) }
 
@@ -102,7 +103,8 @@ Began core worker node core' = (h : Rests core worker) × (core' ≡ with_member
 abbrev pub went_on : (core : Core) (worker : ℕ) → Holds core worker → Core
 went_on core worker h = with_member core worker (record h.member { hand = frame_passed h.frame ∷ h.below })
 
--- the worker whose deque takes the next child of a frame: child k of the root goes to worker k modulo the number of workers, and any other stays with the worker that pushes it
+-- the worker whose deque takes the next child of a frame: child k of the root goes to worker k modulo the number of workers, and
+-- any other stays with the worker that pushes it
 abbrev pub taker_of : Core → ℕ → Frame → ℕ
 taker_of core worker frame = if frame.node.depth == 0 then frame.next % length core.members else worker
 
@@ -110,7 +112,8 @@ taker_of core worker frame = if frame.node.depth == 0 then frame.next % length c
 abbrev pub found_by : WeightedSum → CoreWorker → Point → CoreWorker
 found_by problem member point = record member { own = greater_own member.own (Some (key_at problem point)) }
 
--- a worker's top frame may go: its bound's sum is below what the worker knows, or its bound is at most the worker's own key, or its node is below full depth and all children were passed on
+-- a worker's top frame may go: its bound's sum is below what the worker knows, or its bound is at most the worker's own key, or
+-- its node hasn't chosen from every function and all children were passed on
 abbrev pub MayDrop : WeightedSum → CoreWorker → Frame → Type 0
 MayDrop problem member frame = ((bound_of problem frame.node).sum < member.low) ⊎ Reaches member.own (bound_of problem frame.node) ⊎ ((frame.node.depth < length problem.terms) × (pieces_of problem frame.node ≤ frame.next))
 

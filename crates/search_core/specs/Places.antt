@@ -116,7 +116,8 @@ pub record IsDoneOnce (core : Core) (node : Node) : Type 0 where
 abbrev pub greatest_own : List CoreWorker → Option Key
 greatest_own members = fold (λ most member. greater_own most member.own) None members
 
--- what holds of a core if no node is left: each node that was there at an earlier time is in exactly one worker's done list, and the greatest own key is that of the best point
+-- what holds of a core if no node is left: each node that was there at an earlier time is in exactly one worker's done list, and
+-- the greatest own key is that of the best point
 pub record IsFinished (problem : WeightedSum) (earlier core : Core) : Type 0 where
   pub done : (node : Node) → IsIn (nodes_in earlier) node → IsDoneOnce core node
   pub best : greatest_own core.members ≡ Some (key_at problem (best_of problem))

@@ -7,7 +7,7 @@ use Rattle.moos_post.specs.History.{History}
 use Rattle.moos_post.specs.Words.{is_name}
 use Rattle.moos_report.proofs.Communities.{apart_behind, clients_apart, own_names}
 use Rattle.moos_report.specs.Report.{Reported, TwoReportsTell}
-use Rattle.moos_report.specs.Setups.{no_modes}
+use Rattle.moos_report.specs.Setups.{setup_without_helm}
 use Rattle.moos_share.specs.Bridged.{IsShared, names_bridged}
 use Rattle.script_reader.specs.declared.script.Script.{Script}
 use Rattle.share_job.specs.Sharing.{AreReports, both_reports, IsWithoutBridge, ShareTask}
@@ -15,7 +15,7 @@ use Rattle.share_job.specs.Sharing.{AreReports, both_reports, IsWithoutBridge, S
 -- a community with the bridge, and its history, of which a report is printed
 abbrev reported : (script : Script) (history : History) → IsWithoutBridge script → AreEntries script history → Reported
 reported script history without are = record {
-  setup = no_modes;
+  setup = setup_without_helm;
   names = names_bridged script;
   history = history;
   iterations = [];

@@ -9,7 +9,7 @@ use Rattle.command_line.specs.declared.status.Status.{Status}
 use Rattle.command_line.specs.declared.status.Status.TheVariants.{Done}
 use Rattle.moos_post.specs.History.{History}
 use Rattle.moos_report.specs.Report.{report_text}
-use Rattle.moos_report.specs.Setups.{no_modes}
+use Rattle.moos_report.specs.Setups.{setup_without_helm}
 use Rattle.moos_share.specs.Bridged.{IsShared, names_bridged}
 use Rattle.moos_share.specs.BridgeFiles.{rules_of}
 use Rattle.moos_share.specs.LongNames.{too_long_line}
@@ -33,8 +33,8 @@ pub record ShareTask : Type 0 where
   pub rules : List Rule
 
 -- the script of these bytes, unless a line of them is of a client with the bridge's name: then the first such line is refused
-abbrev pub without_bridge : List ℕ → Script → Result Script ReadFault
-without_bridge bytes script = option_map_or (λ line. Err (At line S10)) (line_of_client (codes "pShare" ∷ []) bytes) (Ok script)
+abbrev pub unless_of_bridge : List ℕ → Script → Result Script ReadFault
+unless_of_bridge bytes script = option_map_or (λ line. Err (At line S10)) (line_of_client (codes "pShare" ∷ []) bytes) (Ok script)
 
 -- a valid script, of whose clients none has the bridge's name
 pub record IsWithoutBridge (script : Script) : Type 0 where
@@ -43,7 +43,7 @@ pub record IsWithoutBridge (script : Script) : Type 0 where
 
 -- the script of one of the communities, or the first refusal of its bytes
 abbrev pub community_of : List ℕ → Result Script ReadFault
-community_of bytes = and_then (without_bridge bytes) (script_of bytes)
+community_of bytes = and_then (unless_of_bridge bytes) (script_of bytes)
 
 -- the rules, unless one of them makes the name of a variable that the script posts too long: then the line of the first such rule is
 -- refused
@@ -73,7 +73,7 @@ share_turn first second bridge order (bytes ∷ more) = turn_behind ScriptFile (
 
 -- the report of a community's history, in which no helm plays
 abbrev pub community_report : List (List ℕ) → History → List ℕ
-community_report names history = report_text no_modes names history []
+community_report names history = report_text setup_without_helm names history []
 
 -- the report of the first community's history, and behind it that of the second one's
 abbrev pub both_reports : ShareTask → History → History → List ℕ

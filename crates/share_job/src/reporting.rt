@@ -7,7 +7,7 @@ ghost use Rattle.share_job.specs.Sharing.{community_report};
 use moos_bridged::Shared;
 use moos_db::Db;
 use moos_io::{Failed, Sink};
-use moos_report::{no_modes, report_keeping};
+use moos_report::{report_keeping, setup_without_helm};
 use std::alloc::Global;
 
 /// Writes the report of the first community, and then that of the second. If the sink fails, it took a front of both.
@@ -38,6 +38,6 @@ fn report_community<K: Sink>(alloc: Global, db: &Db, out: &mut K) -> Result<(), 
     ensures later { FaresOn (K.faults out.old) (K.faults out.new) }
     ensures rose { OnErr result (Fell (K.faults out.old) (K.faults out.new) (K.taken out.new)) }
 {
-    let setup = no_modes(alloc);
+    let setup = setup_without_helm(alloc);
     report_keeping(alloc, &setup, db, &[], out)
 }

@@ -25,18 +25,18 @@ number_by mails var = latest_number (latest_of (flat_map (λ said. said) mails))
 abbrev pub error_by : List (List Pair) → ℤ
 error_by mails = heading_error (number_by mails (codes "DESIRED_HEADING")) (number_by mails (codes "NAV_HEADING"))
 
--- the controller after its first turns, so many: at each it takes in the error by the mails up to that turn
+-- the controller after its first i turns: at each it takes in the error by the mails up to that turn
 abbrev pub rig_after_turns : CraftSettings → List (List Pair) → ℕ → RigState
 rig_after_turns craft mails zero = fresh_rig
 rig_after_turns craft mails (suc i) = rig_after craft (rig_after_turns craft mails i) (error_by (take (suc i) mails))
 
--- what it asks of the vehicle at the turn of the last of these mails
+-- what pMarinePID asks of the vehicle at the turn of the last of these mails
 abbrev pub drive_by : CraftSettings → List (List Pair) → Drive
 drive_by craft mails = drive_of craft (rig_after_turns craft mails (length mails - 1)) (error_by mails) (number_by mails (codes "DESIRED_SPEED"))
 
 -- ---- uSimMarine
 
--- the vehicle after its first turns, so many: at each it moves by the numbers of the mails up to that turn, for so many milliseconds
+-- the vehicle after its first i turns: at each it moves for `period` milliseconds, by the numbers of the mails up to that turn
 abbrev pub hull_after_turns : CraftSettings → ℕ → List (List Pair) → ℕ → Hull
 hull_after_turns craft period mails zero = start_hull craft
 hull_after_turns craft period mails (suc i) =
@@ -55,7 +55,8 @@ last_batch [] = []
 last_batch (batch ∷ []) = batch
 last_batch (batch ∷ next ∷ later) = last_batch (next ∷ later)
 
--- what it posts at the turn of the last of these mails: the last of the batches that a manager of these ranges posts at all of them
+-- what pBasicContactMgr posts at the turn of the last of these mails: the last of the batches that a manager of these ranges
+-- posts at all of them
 abbrev pub contacts_by : Ranges → List (List Pair) → List Pair
 contacts_by ranges mails = last_batch (batches_of ranges mails)
 

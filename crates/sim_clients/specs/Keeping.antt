@@ -21,7 +21,7 @@ pairs_in_mail mail = map (λ letter. pair_posted letter.post) mail
 abbrev pub number_with : List ℕ → Option ℤ → Pair → Option ℤ
 number_with var before pair = if bytes_eq var pair.var then as_number pair.value else before
 
--- the same once these pairs were heard, one after another
+-- the latest number of a variable once these pairs were heard, one after another
 abbrev pub number_after : List ℕ → Option ℤ → List Pair → Option ℤ
 number_after var before pairs = fold (number_with var) before pairs
 
@@ -32,7 +32,7 @@ pub record IsPidAfter (craft : CraftSettings) (mails : List (List Pair)) (pid : 
   pub want_speed : pid.want_speed ≡ number_by mails (codes "DESIRED_SPEED")
   pub heading : pid.heading ≡ number_by mails (codes "NAV_HEADING")
 
--- and so has uSimMarine: it keeps where the vehicle is, and the latest numbers
+-- uSimMarine has had a turn for each of these mails: it keeps where the vehicle is, and the latest numbers
 pub record IsSimAfter (craft : CraftSettings) (period : ℕ) (mails : List (List Pair)) (sim : SimMarine) : Type 0 where
   pub hull : sim.hull ≡ hull_by craft period mails
   pub within : IsHull craft sim.hull
@@ -40,6 +40,6 @@ pub record IsSimAfter (craft : CraftSettings) (period : ℕ) (mails : List (List
   pub thrust : sim.thrust ≡ number_by mails (codes "DESIRED_THRUST")
   pub want_depth : sim.want_depth ≡ number_by mails (codes "DESIRED_DEPTH")
 
--- and so has pBasicContactMgr: its manager has these ranges, and knows these mails
+-- pBasicContactMgr has had a turn for each of these mails: its manager has these ranges, and knows these mails
 abbrev pub IsMgrAfter : Ranges → List (List Pair) → BasicContactMgr → Type 0
 IsMgrAfter ranges mails mgr = Knows ranges mails mgr.manager

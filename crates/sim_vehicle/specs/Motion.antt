@@ -19,7 +19,8 @@ rudder_taken rudder = limited (pos 100000) (unwrap_or rudder (pos 0))
 abbrev pub thrust_taken : Option ℤ → ℤ
 thrust_taken thrust = clamped (pos 0) (pos 100000) (unwrap_or thrust (pos 0))
 
--- how much a quantity may change in the step, by its greatest rate a second
+-- how much a quantity may change in the step, by its greatest rate a second; it is rounded toward zero, so a small rate changes
+-- nothing in a short step
 abbrev pub most_change : ℤ → ℕ → ℤ
 most_change rate dt = int_div (rate *ℤ pos dt) (pos 1000)
 

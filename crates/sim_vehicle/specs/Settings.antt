@@ -24,14 +24,14 @@ setting_name MaxRudder = codes "max_rudder"
 setting_name MaxThrust = codes "max_thrust"
 setting_name SpeedFactor = codes "speed_factor"
 
--- the least that it may be
+-- the least that a setting may be
 abbrev pub setting_low : CraftSetting → ℤ
 setting_low StartX = neg_ℤ (pos (10 ^ 9))
 setting_low StartY = neg_ℤ (pos (10 ^ 9))
 setting_low MaxSpeed = pos 1
 setting_low other = pos 0
 
--- the most that it may be
+-- the most that a setting may be
 abbrev pub setting_high : CraftSetting → ℤ
 setting_high StartX = pos (10 ^ 9)
 setting_high StartY = pos (10 ^ 9)
@@ -68,7 +68,7 @@ is_setting_name name setting = str_eq_ignore_ascii_case name (setting_name setti
 abbrev pub setting_named : List ℕ → Option CraftSetting
 setting_named name = find (is_setting_name name) settings
 
--- what they are if a file sets nothing
+-- the settings if a file sets nothing
 abbrev pub default_settings : CraftSettings
 default_settings =
     record {
@@ -109,7 +109,7 @@ setting_value settings MaxRudder = settings.max_rudder
 setting_value settings MaxThrust = settings.max_thrust
 setting_value settings SpeedFactor = settings.speed_factor
 
--- the settings with this number for that one
+-- the settings with this number for one of them
 abbrev pub set_to : CraftSettings → CraftSetting → ℤ → CraftSettings
 set_to settings StartX number = record settings { start_x = number }
 set_to settings StartY number = record settings { start_y = number }

@@ -15,7 +15,7 @@ abbrev pub set_checked : CraftSettings → CraftSetting → Option ℤ → Resul
 set_checked settings setting None = Err V2
 set_checked settings setting (Some number) = if is_allowed setting number then Ok (set_to settings setting number) else Err V2
 
--- the same by the setting that a line names, if there is one
+-- the setting that a line names becomes this number; a line that names none is refused
 abbrev pub set_by_name : CraftSettings → Option CraftSetting → Option ℤ → Result CraftSettings Cause
 set_by_name settings None number = Err V1
 set_by_name settings (Some setting) number = set_checked settings setting number
@@ -25,7 +25,7 @@ abbrev pub set_by_sides : CraftSettings → Option Sides → Result CraftSetting
 set_by_sides settings None = Err V1
 set_by_sides settings (Some set) = set_by_name settings (setting_named set.name) (milli_of set.value)
 
--- what a line sets
+-- the settings after a line that says something
 abbrev pub set_by_statement : CraftSettings → Statement → Result CraftSettings Cause
 set_by_statement settings said = set_by_sides settings (sides_of said.text)
 

@@ -41,14 +41,14 @@ pub record Simulation : Type 0 where
   pub files : HelmFiles
   pub gear : Gear
 
--- a line of a client of the vehicle is refused, the first one if there is one
-abbrev pub without_line : Option ℕ → Script → Result Script ReadFault
-without_line None script = Ok script
-without_line (Some line) script = Err (At line S11)
+-- the script is refused at a line of a client of the vehicle, if there is one
+abbrev pub refused_at : Option ℕ → Script → Result Script ReadFault
+refused_at None script = Ok script
+refused_at (Some line) script = Err (At line S11)
 
 -- what the bytes of a script stand for that is played beside a vehicle, whose contacts are watched or not
 abbrev pub simulated_script : Bool → List ℕ → Result Script ReadFault
-simulated_script watched bytes = and_then (without_line (line_of_client (vehicle_names watched) bytes)) (script_of bytes)
+simulated_script watched bytes = and_then (refused_at (line_of_client (vehicle_names watched) bytes)) (script_of bytes)
 
 -- a script, a helm's files and a craft are all that a simulation needs, with the ranges of contacts, if there are any
 abbrev pub all_read : Script → HelmFiles → CraftSettings → Option Ranges → FileTurn Simulation
@@ -94,15 +94,15 @@ iterations_sailed task history = iterations (Some (helm_sailed task)) task.scrip
 abbrev pub voyage_text : Simulation → History → List ℕ
 voyage_text task history = report_text (setup_of (Some task.files)) (names_sailed task) history (iterations_sailed task history)
 
--- Whatever was mailed to the vehicle's clients, what they post is in its range: the rudder within `max_rudder` either way, the thrust from 0
--- to `max_thrust`, and the vehicle's place, heading, speed and depth.
+-- Whatever was mailed to the vehicle's clients, what they post is in its range: the rudder within `max_rudder` either way, the
+-- thrust from 0 to `max_thrust`, and the vehicle's place, heading, speed and depth.
 pub record KeepsInRange (craft : CraftSettings) : Type 0 where
   pub rudder : (mails : List (List Pair)) → Lies (neg_ℤ craft.max_rudder) craft.max_rudder (drive_by craft mails).rudder
   pub thrust : (mails : List (List Pair)) → Lies (pos 0) craft.max_thrust (drive_by craft mails).thrust
   pub hull : (period : ℕ) (mails : List (List Pair)) → IsHull craft (hull_by craft period mails)
 
--- The text is the report of a history that the simulation may leave, which is the one that the text lists: no other one that it may leave has
--- it. What the vehicle's clients post in it is in range, and what the helm decides is decided by worth.
+-- The text is the report of a history that the simulation may leave, which is the one that the text lists: no other one that it
+-- may leave has it. What the vehicle's clients post in it is in range, and what the helm decides is decided by worth.
 pub record IsVoyage (task : Simulation) (text : List ℕ) : Type 0 where
   pub history : History
   pub sailed : IsSailed task history

@@ -51,7 +51,7 @@ pub record WasLent {E B : Type 0} (pass : PassState E B) (number : ℕ) (history
   pub number_is : number ≡ pass.number
   pub turn_is : pass.turn ≡ Some history
 
--- these are the events of this number
+-- what was taken in are the events of this number
 abbrev pub has_number : {E : Type 0} → ℕ → Met E → Bool
 has_number n met = met.number == n
 
@@ -60,7 +60,7 @@ abbrev pub events_in : {E : Type 0} → List (Met E) → ℕ → List E
 events_in [] n = []
 events_in (one ∷ met) n = if has_number n one then one.events else events_in met n
 
--- those taken in without each of this number
+-- what was taken in without the events of this number
 abbrev pub without_number : {E : Type 0} → ℕ → List (Met E) → List (Met E)
 without_number n met = filter (λ one. not (has_number n one)) met
 
@@ -77,7 +77,7 @@ known_of pass n = if pass.number == n then pass.mine else events_in pass.met n
 abbrev pub KnowsAll : {E B : Type 0} → (E → ℕ) → PassState E B → List E → Type 0
 KnowsAll number pass history = (n : ℕ) → own number n history ≡ known_of pass n
 
--- the first pass of a lock that may have so many
+-- the first pass of a lock that may have `passes` of them
 abbrev pub first_pass : {E B : Type 0} → LockState B → ℕ → PassState E B
 first_pass lock passes =
     record { lock = lock.lock; live = true; base = Some lock.base; number = 0; seen = []; mine = []; left = passes - 1; made = 0; met = []; turn = None }

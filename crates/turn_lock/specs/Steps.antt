@@ -60,7 +60,7 @@ Advances history_of step me found after = after ≡ (advanced me.0 (in_hand hist
 abbrev pub Adds : {E : Type 0} → (E → ℕ) → ℕ → List E → Type 0
 Adds {E} number n added = (added ≡ []) ⊎ ((event : E) × (added ≡ event ∷ []) × (number event ≡ n))
 
--- the value comes back in the pass's turn, with its base, and with its history after these events more
+-- the value comes back in the pass's turn, with its base, and with these events added to its history
 pub record Returns {E B S : Type 0} (base_of : S → B) (history_of : S → List E) (number : E → ℕ) (ticket : ℕ) (added : List E) (v : Known E B) (x : S) : Type 0 where
   pub turn : (begun : List E) × (v.turn ≡ Holds ticket begun) × (history_of x ≡ begun ++ added)
   pub base : v.base ≡ Some (base_of x)

@@ -8,7 +8,7 @@ use Rattle.moos_text.specs.declared.cause.ReadFault.TheVariants.{At}
 use Rattle.moos_text.specs.Refusals.{and_then}
 use Rattle.script_reader.specs.Named.{has_name}
 use Rattle.script_reader.specs.Script.{script_of}
-use Rattle.share_job.specs.Sharing.{without_bridge}
+use Rattle.share_job.specs.Sharing.{unless_of_bridge}
 use Rattle.share_job.proofs.Unnamed.{no_line}
 use Rattle.share_job.proofs.reading.read_community.Goals as goal
 
@@ -18,5 +18,5 @@ returns-then-not-has_bridge-clause-read c =
     let script = c.in_ok-script.script in
     let read : script_of bytes ≡ Ok script = c.in_ok-script.ensures.read in
     let none : list_any (has_name (codes "pShare" ∷ [])) script.names ≡ false = sym c.has_bridge.ensures ∙ c.if-not-has_bridge.true in
-    ap (and_then (without_bridge bytes)) read
+    ap (and_then (unless_of_bridge bytes)) read
     ∙ ap (λ (line : Option ℕ). option_map_or (λ line. Err (At line S10)) line (Ok script)) (no_line (codes "pShare" ∷ []) bytes script refl read none)

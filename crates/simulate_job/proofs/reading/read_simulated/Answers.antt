@@ -5,17 +5,17 @@ use Rattle.moos_text.specs.Refusals.{and_then}
 use Rattle.script_reader.specs.Named.{line_of_client}
 use Rattle.script_reader.specs.Script.{script_of}
 use Rattle.simulate_job.proofs.Reporting.{refused_first}
-use Rattle.simulate_job.specs.Simulating.{without_line}
+use Rattle.simulate_job.specs.Simulating.{refused_at}
 use Rattle.simulate_job.proofs.reading.read_simulated.Goals as goal
 
 pub returns-in-Err-clause-refused : goal.returns-in-Err-clause-refused
-returns-in-Err-clause-refused c = refused_first (without_line (line_of_client (vehicle_names c.args.watched) c.args.bytes.now)) c.in-Err.fault (script_of c.args.bytes.now) c.in-Err.ensures.refused
+returns-in-Err-clause-refused c = refused_first (refused_at (line_of_client (vehicle_names c.args.watched) c.args.bytes.now)) c.in-Err.fault (script_of c.args.bytes.now) c.in-Err.ensures.refused
 
 pub returns-in-None-clause-read : goal.returns-in-None-clause-read
 returns-in-None-clause-read c =
     let bytes = c.args.bytes.now in
     let none : line_of_client (vehicle_names c.args.watched) bytes ≡ None = ap (λ (names : List (List ℕ)). line_of_client names bytes) (sym c.in-Ok-vehicle_names.ensures) ∙ sym c.line_of_client.ensures ∙ c.in-None.is in
-    ap (and_then (without_line (line_of_client (vehicle_names c.args.watched) bytes))) c.in-Ok.ensures.read ∙ ap (λ (line : Option ℕ). without_line line c.in-Ok.script) none
+    ap (and_then (refused_at (line_of_client (vehicle_names c.args.watched) bytes))) c.in-Ok.ensures.read ∙ ap (λ (line : Option ℕ). refused_at line c.in-Ok.script) none
 
 pub returns-in-None-clause-apart : goal.returns-in-None-clause-apart
 returns-in-None-clause-apart c =
@@ -27,4 +27,4 @@ pub returns-in-Some-clause-refused : goal.returns-in-Some-clause-refused
 returns-in-Some-clause-refused c =
     let bytes = c.args.bytes.now in
     let some : line_of_client (vehicle_names c.args.watched) bytes ≡ Some c.in-Some.line = ap (λ (names : List (List ℕ)). line_of_client names bytes) (sym c.in-Ok-vehicle_names.ensures) ∙ sym c.line_of_client.ensures ∙ c.in-Some.is in
-    ap (and_then (without_line (line_of_client (vehicle_names c.args.watched) bytes))) c.in-Ok.ensures.read ∙ ap (λ (line : Option ℕ). without_line line c.in-Ok.script) some
+    ap (and_then (refused_at (line_of_client (vehicle_names c.args.watched) bytes))) c.in-Ok.ensures.read ∙ ap (λ (line : Option ℕ). refused_at line c.in-Ok.script) some
