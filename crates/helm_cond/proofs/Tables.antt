@@ -1,85 +1,42 @@
--- What is looked up in a table by name, once a value was set in it.
-use Rattle.std.proofs.Common.{◌≡◌, ℕ, ◌+◌, ◌-◌, ◌<◌, Bool, true, false, cond, List, [], ◌∷◌, Option, Some, None, bytes_eq, length, drop, refl, ap, sym, ◌∙◌, arith}
-use Rattle.std.specs.Prelude.{slice_get}
-use Rattle.std.proofs.lemmas.List.{drop_more}
-use Rattle.std.proofs.lemmas.Option.{slice_get_within, get_or_from_slice_get}
+-- What is looked up in a table by name, once a value was set in it, and while its entries are taken out one by one.
+use Rattle.std.proofs.Common.{◌≡◌, ℕ, Bool, List, ◌∷◌, Option, Some, None, bytes_eq, refl, ap, ◌∙◌, if◌then◌else◌, inl, inr}
+use Rattle.std.specs.Cmp.Lexicographic.{on_texts_equal}
+use Rattle.std.specs.List.{IsDistinct}
+use Rattle.std.specs.Map.{AreApart, IsKeyTest, KeepsOthers, keys_of, lookup}
+use Rattle.std.specs.Option.{option_or}
+use Rattle.std.specs.Ordering.{on}
+use Rattle.std.proofs.lemmas.Bool.{both_ways, cases_Bool, false_from_ne_true}
+use Rattle.std.proofs.lemmas.Map.{lookup-none}
+use Rattle.std.proofs.lemmas.Map.Entries.{none_past_head}
 use Rattle.std.proofs.lemmas.Slice.Eq.{bytes_eq-Decides}
-use Rattle.std.specs.Map.{lookup, set_value}
-use Rattle.indexmap.specs.IndexMap.{insert_entry}
-
--- equal names are the same
-is_same : (a b : List ℕ) → bytes_eq a b ≡ true → a ≡ b
-is_same a b same = (bytes_eq-Decides a b).0 same
-
--- two names that are equal to a third are equal
-bytes_same : (other a b : List ℕ) → bytes_eq other a ≡ true → bytes_eq other b ≡ true → bytes_eq a b ≡ true
-bytes_same other a b first second = ap (λ c. bytes_eq c b) (sym (is_same other a first)) ∙ second
-
--- a name that is equal to another is told from a third as that one is
-same_name : (other a b : List ℕ) → bytes_eq a b ≡ true → bytes_eq other a ≡ bytes_eq other b
-same_name other a b same = ap (bytes_eq other) (is_same a b same)
 
 module _ {K V : Type 0} (name : K → List ℕ) where
   -- the value of the first entry of this name
   abbrev pub value_at : List ℕ → List (K × V) → Option V
   value_at var entries = lookup (λ key. bytes_eq var (name key)) entries
 
-  pub value_set : (var : List ℕ) (value stood : V) (other : List ℕ) (entries : List (K × V)) → value_at var entries ≡ Some stood →
-      value_at other (set_value (λ key. bytes_eq var (name key)) entries value) ≡ cond (bytes_eq other var) (Some value) (value_at other entries)
-  value_set var value stood other [] found = absurd (let e : None ≡ Some stood = found in cc)
-  value_set var value stood other (entry ∷ entries) found = through (bytes_eq var (name entry.0)) refl found (value_set var value stood other entries)
-    where
-      through : (own : Bool) → bytes_eq var (name entry.0) ≡ own → cond own (Some entry.1) (value_at var entries) ≡ Some stood →
-          (value_at var entries ≡ Some stood →
-          value_at other (set_value (λ key. bytes_eq var (name key)) entries value) ≡ cond (bytes_eq other var) (Some value) (value_at other entries)) →
-          value_at other (cond own ((entry.0, value) ∷ entries) (entry ∷ set_value (λ key. bytes_eq var (name key)) entries value))
-          ≡ cond (bytes_eq other var) (Some value) (value_at other (entry ∷ entries))
-      through true own e rest = by (bytes_eq other (name entry.0)) (same_name other var (name entry.0) own)
-        where
-          by : (b : Bool) → bytes_eq other var ≡ b → cond b (Some value) (value_at other entries) ≡ cond (bytes_eq other var) (Some value) (cond b (Some entry.1) (value_at other entries))
-          by true h = ap (λ c. cond c (Some value) (Some entry.1)) (sym h)
-          by false h = ap (λ c. cond c (Some value) (value_at other entries)) (sym h)
-      through false own e rest = by (bytes_eq other (name entry.0)) refl (bytes_eq other var) refl (rest e)
-        where
-          by : (b : Bool) → bytes_eq other (name entry.0) ≡ b → (d : Bool) → bytes_eq other var ≡ d →
-              value_at other (set_value (λ key. bytes_eq var (name key)) entries value) ≡ cond d (Some value) (value_at other entries) →
-              cond b (Some entry.1) (value_at other (set_value (λ key. bytes_eq var (name key)) entries value)) ≡ cond d (Some value) (cond b (Some entry.1) (value_at other entries))
-          by true h true g rest =
-              absurd (let differ : true ≡ false = sym (bytes_same other var (name entry.0) g h) ∙ own in cc)
-          by true h false g rest = refl
-          by false h true g rest = rest
-          by false h false g rest = rest
+  kept : (test : K → Bool) (before after : List (K × V)) → KeepsOthers (on name bytes_eq) test before after → (other : K → Bool) → IsKeyTest (on name bytes_eq) other → AreApart test other → lookup other after ≡ lookup other before
+  unfolding KeepsOthers
+  kept test before after keeps = keeps
 
-  pub value_inserted : (key : K) (value : V) (other : List ℕ) (entries : List (K × V)) →
-      value_at other (insert_entry (λ k x. bytes_eq (name k) (name x)) entries key value) ≡ cond (bytes_eq other (name key)) (Some value) (value_at other entries)
-  value_inserted key value other [] = refl
-  value_inserted key value other (entry ∷ entries) = through (bytes_eq (name key) (name entry.0)) refl (value_inserted key value other entries)
-    where
-      through : (own : Bool) → bytes_eq (name key) (name entry.0) ≡ own →
-          value_at other (insert_entry (λ k x. bytes_eq (name k) (name x)) entries key value) ≡ cond (bytes_eq other (name key)) (Some value) (value_at other entries) →
-          value_at other (cond own ((entry.0, value) ∷ entries) (entry ∷ insert_entry (λ k x. bytes_eq (name k) (name x)) entries key value))
-          ≡ cond (bytes_eq other (name key)) (Some value) (value_at other (entry ∷ entries))
-      through true own rest = by (bytes_eq other (name entry.0)) (same_name other (name key) (name entry.0) own)
-        where
-          by : (b : Bool) → bytes_eq other (name key) ≡ b → cond b (Some value) (value_at other entries) ≡ cond (bytes_eq other (name key)) (Some value) (cond b (Some entry.1) (value_at other entries))
-          by true h = ap (λ c. cond c (Some value) (Some entry.1)) (sym h)
-          by false h = ap (λ c. cond c (Some value) (value_at other entries)) (sym h)
-      through false own rest = by (bytes_eq other (name entry.0)) refl (bytes_eq other (name key)) refl rest
-        where
-          by : (b : Bool) → bytes_eq other (name entry.0) ≡ b → (d : Bool) → bytes_eq other (name key) ≡ d →
-              value_at other (insert_entry (λ k x. bytes_eq (name k) (name x)) entries key value) ≡ cond d (Some value) (value_at other entries) →
-              cond b (Some entry.1) (value_at other (insert_entry (λ k x. bytes_eq (name k) (name x)) entries key value)) ≡ cond d (Some value) (cond b (Some entry.1) (value_at other entries))
-          by true h true g rest = absurd (let differ : true ≡ false = sym (bytes_same other (name key) (name entry.0) g h) ∙ own in cc)
-          by true h false g rest = refl
-          by false h true g rest = rest
-          by false h false g rest = rest
+  -- after this value was set for a name, and nothing else was
+  pub value_set : (var : List ℕ) (value : V) (before after : List (K × V)) → KeepsOthers (on name bytes_eq) (λ key. bytes_eq var (name key)) before after → value_at var after ≡ Some value →
+      (other : List ℕ) → value_at other after ≡ (if bytes_eq other var then Some value else value_at other before)
+  value_set var value before after keeps set other = elim (cases_Bool (bytes_eq other var)) [
+    | inl same ↦ rw same (ap (λ sought. value_at sought after) ((bytes_eq-Decides other var).0 same) ∙ set)
+    | inr apart ↦ rw apart (kept (λ key. bytes_eq var (name key)) before after keeps (λ key. bytes_eq other (name key))
+        (λ x y is. ap (λ sought. bytes_eq sought (name y)) ((bytes_eq-Decides other (name x)).0 is))
+        (λ key is. false_from_ne_true (bytes_eq other (name key)) (λ own.
+        both_ways _ apart (ap (bytes_eq other) ((bytes_eq-Decides var (name key)).0 is) ∙ own))))
+  ]
 
-  -- a place further to the front, the value of the entry there comes first
-  pub value_first : (entries : List (K × V)) (left : ℕ) (key : K) (value : V) (other : List ℕ) → 0 < left → Some (key, value) ≡ slice_get entries (left - 1) →
-      value_at other (drop (left - 1) entries) ≡ cond (bytes_eq other (name key)) (Some value) (value_at other (drop left entries))
-  value_first entries left key value other some entry =
-      let within : left - 1 < length entries = slice_get_within entries (left - 1) (key, value) (sym entry) in
-      let again : left - 1 + 1 ≡ left = omega arith in
-      ap (value_at other) (drop_more entries (left - 1) (key, value) within)
-      ∙ ap (λ first. value_at other (first ∷ drop (left - 1 + 1) entries)) (get_or_from_slice_get entries (left - 1) (key, value) (key, value) (sym entry))
-      ∙ ap (λ place. cond (bytes_eq other (name key)) (Some value) (value_at other (drop place entries))) again
+  -- the value of the first entry that is left, taken out and set, is what was looked up in it
+  pub value_taken : (key : K) (value : V) (left : List (K × V)) (known : List ℕ → Option V) → IsDistinct (on name bytes_eq) (keys_of ((key, value) ∷ left)) →
+      (var : List ℕ) → option_or (value_at var left) (if bytes_eq var (name key) then Some value else known var) ≡ option_or (value_at var ((key, value) ∷ left)) (known var)
+  value_taken key value left known distinct var = elim (cases_Bool (bytes_eq var (name key))) [
+    | inl own ↦
+        let none : value_at (name key) left ≡ None =
+        lookup-none (on name bytes_eq key) left (none_past_head (on_texts_equal name) key (key, value) left distinct ((bytes_eq-Decides (name key) (name key)).1 refl)) in
+        rw own (ap (λ found. option_or found (Some value)) (ap (λ sought. value_at sought left) ((bytes_eq-Decides var (name key)).0 own) ∙ none))
+    | inr other ↦ rw other refl
+  ]

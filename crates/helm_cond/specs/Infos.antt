@@ -1,6 +1,6 @@
 -- What an `Info` knows.
 use Rattle.std.specs.Prelude.{bytes_eq}
-use Rattle.indexmap.specs.IndexMap.{get_by}
+use Rattle.std.specs.HashMap.{get_by}
 use Rattle.helm_cond.specs.declared.info.Info.{Info}
 use Rattle.helm_cond.specs.Learnt.{Knowledge}
 

@@ -3,15 +3,15 @@ ghost use Rattle.std.specs.Prelude.{◌≡◌, List, ℕ, None, OnOk, OnErr, IfO
 ghost use Rattle.helm_cond.specs.Infos.{knowledge_of};
 ghost use Rattle.helm_cond.specs.Learnt.{known_with};
 
-use indexmap::IndexMap;
 use moos_post::{Copied, Name, NoMemory, Value};
 use std::alloc::Global;
+use std::collections::HashMap;
 
 /// What the helm has learnt: the latest value of each variable. Learning one and looking one up take constant time on
 /// average, however many are known.
 #[derive(Drop)]
 pub struct Info {
-    table: IndexMap<Vec<u8>, Value>,
+    table: HashMap<Vec<u8>, Value>,
 }
 
 impl Info {
@@ -20,7 +20,7 @@ impl Info {
         ensures { (var : List ℕ) → knowledge_of result var ≡ None }
     {
         Info {
-            table: IndexMap::new(alloc),
+            table: HashMap::new(alloc),
         }
     }
 
@@ -57,12 +57,8 @@ impl Info {
         ensures { IfOk result (λ info. (var : List ℕ) → knowledge_of info var ≡ knowledge_of self.now var) }
     {
         let mut copied = Info::make(alloc);
-        let mut left = self.table.len();
-        while left > 0 {
-            left -= 1;
-            if let Some((var, value)) = self.table.get_index(left) {
-                copied.set(alloc, var.as_slice(), value.copy(alloc)?)?;
-            }
+        for (var, value) in &self.table {
+            copied.set(alloc, var.as_slice(), value.copy(alloc)?)?;
         }
         Ok(copied)
     }

@@ -1,5 +1,5 @@
 -- A variable that is posted for the first time gets a number, and those who hear it.
-use Rattle.std.proofs.Common.{◌≡◌, ◌∙◌, ◌<◌, ◌≤◌, ℕ, zero, suc, Bool, true, false, List, [], ◌∷◌, ◌++◌, map, length, take, slice_get, None, Some, option_map, unwrap_or, bytes_eq, refl, ap, sym, subst, inl, inr, ◌⊎◌, if◌then◌else◌, arith}
+use Rattle.std.proofs.Common.{◌≡◌, ◌∙◌, ◌<◌, ◌≤◌, ℕ, zero, suc, Bool, true, false, List, [], ◌∷◌, ◌++◌, map, length, take, slice_get, None, Option, Some, option_map, unwrap_or, bytes_eq, refl, ap, sym, subst, inl, inr, ◌⊎◌, if◌then◌else◌, arith}
 use Rattle.std.specs.List.{All}
 use Rattle.std.proofs.lemmas.Bool.{false_from_ne_true}
 use Rattle.std.proofs.lemmas.List.{length-map, length-take, length_push, map-append, take-append-le}
@@ -11,10 +11,9 @@ use Rattle.moos_post.specs.declared.value.Post.{Post}
 use Rattle.moos_post.specs.Delivery.{Inbox}
 use Rattle.moos_db.specs.Clients.{ClientState}
 use Rattle.moos_db.specs.Subscriptions.{HearBelow, AreKeptAs, AreKnown, AreNoted, AreNumbers, AreReady, HasLatest, IsAdded, IsHeardBy, IsNumbering, MayAdd, VariableState, VariablesState, fresh_subscriptions, name_at}
-use Rattle.moos_db.specs.Tables.{Row, number_of, rows_from, with_row}
+use Rattle.moos_db.specs.Tables.{GetsNumber, latest_post_from, number_of, Row}
 use Rattle.moos_db.proofs.Changes.{named-at}
 use Rattle.moos_db.proofs.Hearing.{subscriptions-fresh}
-use Rattle.moos_db.proofs.Latests.{number_of-with_row}
 use Rattle.moos_db.proofs.Standing.{slice_get-seam}
 
 -- what stands in a list with one element more
@@ -51,20 +50,20 @@ pub other-name : (numbers : List Row) (k : ℕ) (one other : List ℕ) → numbe
 other-name numbers k one other is none = false_from_ne_true (bytes_eq one other) (λ same. none-some k (sym none ∙ ap (λ var. number_of var numbers) (sym ((bytes_eq-Decides one other).0 same)) ∙ is))
 
 -- the table with the new variable
-pub numbering-added : (variables : List VariableState) (numbers : List Row) (new : VariableState) → IsNumbering variables numbers → number_of new.name numbers ≡ None → IsNumbering (variables ++ new ∷ []) (with_row new.name (length variables) numbers)
-numbering-added variables numbers new numbering unknown = record {
+pub numbering-added : (variables : List VariableState) (numbers after : List Row) (new : VariableState) → IsNumbering variables numbers → number_of new.name numbers ≡ None → GetsNumber new.name (length variables) numbers after → IsNumbering (variables ++ new ∷ []) after
+numbering-added variables numbers after new numbering unknown numbered = record {
   each = λ number variable is. elim (push-cases variables new number variable is) [
     | inl old ↦
-        number_of-with_row variable.name new.name (length variables) numbers
+        numbered variable.name
         ∙ ap (λ b. if b then Some (length variables) else number_of variable.name numbers)
         (false_from_ne_true (bytes_eq new.name variable.name) (λ same. none-some number (sym unknown ∙ ap (λ var. number_of var numbers) ((bytes_eq-Decides new.name variable.name).0 same) ∙ numbering.each number variable old)))
         ∙ numbering.each number variable old
     | inr last ↦
-        number_of-with_row variable.name new.name (length variables) numbers
+        numbered variable.name
         ∙ ap (λ b. if b then Some (length variables) else number_of variable.name numbers) ((bytes_eq-Decides new.name variable.name).1 (ap (λ (one : VariableState). one.name) (sym last.1)))
         ∙ ap (λ n. Some n) (sym last.0)
   ];
-  only = λ number var is. through number var (bytes_eq new.name var) refl (sym (number_of-with_row var new.name (length variables) numbers) ∙ is);
+  only = λ number var is. through number var (bytes_eq new.name var) refl (sym (numbered var) ∙ is);
 }
   where
     through : (number : ℕ) (var : List ℕ) (own : Bool) → bytes_eq new.name var ≡ own → (if bytes_eq new.name var then Some (length variables) else number_of var numbers) ≡ Some number → name_at (variables ++ new ∷ []) number ≡ Some var
@@ -76,32 +75,31 @@ numbering-added variables numbers new numbering unknown = record {
         name-front variables (new ∷ []) number var (numbering.only number var (ap (λ b. if b then Some (length variables) else number_of var numbers) (sym own) ∙ is))
 
 -- all numbers with the new variable's
-pub numbers-added : (before : VariablesState) (new : VariableState) → AreNumbers before → number_of new.name before.numbers ≡ None →
-    AreNumbers (record { all = before.all ++ new ∷ []; numbers = with_row new.name (length before.all) before.numbers; noted = before.noted })
-numbers-added before new are unknown = record {
-  numbering = numbering-added before.all before.numbers new are.numbering unknown;
+pub numbers-added : (before : VariablesState) (new : VariableState) (after : List Row) → AreNumbers before → number_of new.name before.numbers ≡ None → GetsNumber new.name (length before.all) before.numbers after →
+    AreNumbers (record { all = before.all ++ new ∷ []; numbers = after; noted = before.noted })
+numbers-added before new after are unknown numbered = record {
+  numbering = numbering-added before.all before.numbers after new are.numbering unknown numbered;
   noted = All-weaker (λ n. n < length before.all) (λ n. n < length (before.all ++ new ∷ [])) (λ n within. omega (arith, within, length_push before.all new)) before.noted are.noted;
 }
 
 -- no post is of a variable without a number
-unposted : (variables : List VariableState) (numbers : List Row) (var : List ℕ) (first : ℕ) (rows : List Row) (noted : List ℕ) (posts : List Post) → IsNumbering variables numbers → number_of var numbers ≡ None →
-    map (name_at variables) noted ≡ map (λ var. Some var) (map (λ (post : Post). post.var) posts) → number_of var rows ≡ None → number_of var (rows_from first rows posts) ≡ None
-unposted variables numbers var first rows [] [] numbering unknown are none = none
-unposted variables numbers var first rows [] (post ∷ posts) numbering unknown are none = absurd (let e : [] ≡ Some post.var ∷ map (λ var. Some var) (map (λ (post : Post). post.var) posts) = are in cc)
-unposted variables numbers var first rows (number ∷ noted) [] numbering unknown are none = absurd (let e : name_at variables number ∷ map (name_at variables) noted ≡ [] = are in cc)
-unposted variables numbers var first rows (number ∷ noted) (post ∷ posts) numbering unknown are none =
+unposted : (variables : List VariableState) (numbers : List Row) (var : List ℕ) (first : ℕ) (found : Option ℕ) (noted : List ℕ) (posts : List Post) → IsNumbering variables numbers → number_of var numbers ≡ None →
+    map (name_at variables) noted ≡ map (λ var. Some var) (map (λ (post : Post). post.var) posts) → found ≡ None → latest_post_from var first found posts ≡ None
+unposted variables numbers var first found [] [] numbering unknown are none = none
+unposted variables numbers var first found [] (post ∷ posts) numbering unknown are none = absurd (let e : [] ≡ Some post.var ∷ map (λ var. Some var) (map (λ (post : Post). post.var) posts) = are in cc)
+unposted variables numbers var first found (number ∷ noted) [] numbering unknown are none = absurd (let e : name_at variables number ∷ map (name_at variables) noted ≡ [] = are in cc)
+unposted variables numbers var first found (number ∷ noted) (post ∷ posts) numbering unknown are none =
     let e : name_at variables number ∷ map (name_at variables) noted ≡ Some post.var ∷ map (λ var. Some var) (map (λ (post : Post). post.var) posts) = are in
     let here : name_at variables number ≡ Some post.var = cc in
     let rest : map (name_at variables) noted ≡ map (λ var. Some var) (map (λ (post : Post). post.var) posts) = cc in
-    unposted variables numbers var (suc first) (with_row post.var first rows) noted posts numbering unknown rest
-    (number_of-with_row var post.var first rows
-    ∙ ap (λ b. if b then Some first else number_of var rows) (other-name numbers number post.var var (named variables numbers number post.var numbering here) unknown)
+    unposted variables numbers var (suc first) (if bytes_eq post.var var then Some first else found) noted posts numbering unknown rest
+    (ap (λ b. if b then Some first else found) (other-name numbers number post.var var (named variables numbers number post.var numbering here) unknown)
     ∙ none)
 
 -- of none without a number, where one more has one, a post came through a registration
-known-more : (clients : ℕ) (inboxes : ℕ → Inbox) (var : List ℕ) (number : ℕ) (numbers : List Row) → AreKnown clients inboxes numbers → AreKnown clients inboxes (with_row var number numbers)
-known-more clients inboxes var number numbers known client below k d within other none =
-    known client below k d within other (through (bytes_eq var other) (sym (number_of-with_row other var number numbers) ∙ none))
+known-more : (clients : ℕ) (inboxes : ℕ → Inbox) (var : List ℕ) (number : ℕ) (numbers after : List Row) → GetsNumber var number numbers after → AreKnown clients inboxes numbers → AreKnown clients inboxes after
+known-more clients inboxes var number numbers after numbered known client below k d within other none =
+    known client below k d within other (through (bytes_eq var other) (sym (numbered other) ∙ none))
   where
     through : (own : Bool) → (if own then Some number else number_of other numbers) ≡ None → number_of other numbers ≡ None
     through true is = absurd (none-some number (sym is))
@@ -124,16 +122,16 @@ added-ready : (inboxes : ℕ → Inbox) (posts : List Post) (clients : List Clie
     number_of var before.numbers ≡ None → AreReady inboxes posts before clients → AreReady inboxes posts after clients
 added-ready inboxes posts clients before after var added numbering unknown ready =
     let new : VariableState = record { name = var; latest = None; subscriptions = added.subscriptions; room = added.room } in
-    let with_new : VariablesState = record { all = before.all ++ new ∷ []; numbers = with_row var (length before.all) before.numbers; noted = before.noted } in
-    let is : after ≡ with_new = λ i. record { all = added.all i; numbers = added.numbers i; noted = added.noted i } in
+    let with_new : VariablesState = record { all = before.all ++ new ∷ []; numbers = after.numbers; noted = before.noted } in
+    let is : after ≡ with_new = λ i. record { all = added.all i; numbers = after.numbers; noted = added.noted i } in
     subst (λ variables. AreReady inboxes posts variables clients) (sym is) (record {
       stand = record {
         clients = ready.stand.clients;
         heard = record {
           heard = All-push (IsHeardBy (length clients) inboxes) before.all new ready.stand.heard.heard (heard-new inboxes posts clients before after var added ready.stand unknown);
           latest = All-push (HasLatest posts) before.all new ready.stand.heard.latest
-              (sym (unposted before.all before.numbers var 0 [] (take (length posts) before.noted) posts numbering unknown ready.noted refl));
-          known = known-more (length clients) inboxes var (length before.all) before.numbers ready.stand.heard.known;
+              (sym (unposted before.all before.numbers var 0 None (take (length posts) before.noted) posts numbering unknown ready.noted refl));
+          known = known-more (length clients) inboxes var (length before.all) before.numbers after.numbers added.numbers ready.stand.heard.known;
         };
       };
       noted = names-front before.all (new ∷ []) (take (length posts) before.noted) (map (λ (post : Post). post.var) posts) ready.noted;

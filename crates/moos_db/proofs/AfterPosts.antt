@@ -15,7 +15,7 @@ use Rattle.moos_mail.proofs.Lists.{found-below}
 use Rattle.moos_mail.proofs.Orderly.{IsOrderly, IsPast}
 use Rattle.moos_db.specs.Clients.{ClientState, IsClient, mailed_once, registration_of}
 use Rattle.moos_db.specs.Subscriptions.{AreHeard, AreKeptAs, AreKnown, HasLatest, SubscriptionState, IsHeardBy, HasKnown, IsNumbering, IsPosted, VariableState, VariablesState, subscriptions_of, hears_due, mailed_if, of_client}
-use Rattle.moos_db.specs.Tables.{Row, number_of, rows_of}
+use Rattle.moos_db.specs.Tables.{latest_post_of, number_of, Row}
 use Rattle.moos_db.proofs.Adding.{other-name}
 use Rattle.moos_db.proofs.Changes.{all-at, all-set}
 use Rattle.moos_db.proofs.Hearing.{any-subscriptions, AreAsOne, due-alike, subscriptions-passed, last-came, of_client-stamped, others-passed, passed, registrations-passed, stamped, stamped-client}
@@ -123,9 +123,9 @@ posted-kept names inboxes posts post before after clients others posted name ord
         posted.numbering posted.there name are.heard.heard);
     latest = subst (All (HasLatest (posts ++ post ∷ []))) (sym posted.all)
         (all-set (HasLatest posts) (HasLatest (posts ++ post ∷ [])) before.all posted.at (record posted.variable { latest = Some (length posts); subscriptions = map (stamped heard post.stamp) posted.variable.subscriptions; room = posted.room })
-        (sym (latest-posted posts post posted.variable.name ∙ ap (λ b. if b then Some (length posts) else number_of posted.variable.name (rows_of posts)) ((bytes_eq-Decides post.var posted.variable.name).1 (sym name))))
+        (sym (latest-posted posts post posted.variable.name ∙ ap (λ b. if b then Some (length posts) else latest_post_of posted.variable.name posts) ((bytes_eq-Decides post.var posted.variable.name).1 (sym name))))
         (λ k other is apart latest. latest
-        ∙ sym (latest-posted posts post other.name ∙ ap (λ b. if b then Some (length posts) else number_of other.name (rows_of posts)) (apart-name before.all before.numbers posted.at k post.var other posted.numbering numbered is apart))) are.heard.latest);
+        ∙ sym (latest-posted posts post other.name ∙ ap (λ b. if b then Some (length posts) else latest_post_of other.name posts) (apart-name before.all before.numbers posted.at k post.var other posted.numbering numbered is apart))) are.heard.latest);
     known = subst (AreKnown (length clients) now) (sym posted.numbers)
         (known-passed (length clients) post heard (λ client. is_due names post) inboxes now (λ client. due-alike names client post) (λ client. refl) before.numbers posted.at numbered are.heard.known);
   });

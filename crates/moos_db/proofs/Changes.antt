@@ -9,7 +9,7 @@ use Rattle.moos_post.specs.Delivery.{Inbox}
 use Rattle.moos_db.specs.Clients.{AreClients, ClientState, IsClient}
 use Rattle.moos_db.specs.Subscriptions.{AreHeard, AreKnown, AreNoted, AreNumbers, HasLatest, IsHeardBy, VariableState, VariablesState, name_at, with_inbox}
 use Rattle.moos_db.specs.Registering.{AreEach, AreEachAt, variable_names}
-use Rattle.moos_db.specs.Tables.{number_of, rows_of}
+use Rattle.moos_db.specs.Tables.{latest_post_of, number_of}
 
 -- lists
 
@@ -119,7 +119,7 @@ pub heard-changed : (clients : ℕ) (inboxes now : ℕ → Inbox) (posts : List 
     AreKnown clients now after.numbers → AreHeard clients inboxes posts before → AreHeard clients now posts after
 heard-changed clients inboxes now posts before after each known are = record {
   heard = All-each (λ n. IsHeardSo clients inboxes now) (IsHeardBy clients inboxes) (IsHeardBy clients now) before.all after.all each (λ n one other so. so.heard) are.heard;
-  latest = All-each (λ n. IsHeardSo clients inboxes now) (HasLatest posts) (HasLatest posts) before.all after.all each (λ n one other so latest. so.latest ∙ latest ∙ ap (λ name. number_of name (rows_of posts)) (sym so.name)) are.latest;
+  latest = All-each (λ n. IsHeardSo clients inboxes now) (HasLatest posts) (HasLatest posts) before.all after.all each (λ n one other so latest. so.latest ∙ latest ∙ ap (λ name. latest_post_of name posts) (sym so.name)) are.latest;
   known = known;
 }
 

@@ -1,6 +1,6 @@
--- Worked by hand: the table of latest posts tried on posts of the variables C, B, A and C again, the letters of these posts, and what
+-- Worked by hand: the latest posts of the variables C, B, A and C again, a table of their numbers, the letters of these posts, and what
 -- is kept of a client.
-use Rattle.std.specs.Prelude.{◌≡◌, ℕ, zero, suc, ◌<◌, Bool, bytes_eq, if◌then◌else◌, option_map, List, [], ◌∷◌, length, Option, None, Some, unwrap_or, codes, false, true, pos, slice_get, take, slice_index_or}
+use Rattle.std.specs.Prelude.{◌≡◌, ℕ, zero, suc, ◌<◌, Bool, bytes_eq, cond, find, if◌then◌else◌, option_map, List, [], ◌∷◌, length, Option, None, Some, unwrap_or, codes, false, true, pos, slice_get, take, slice_index_or}
 use Rattle.std.proofs.Common.{refl, ap, subst, arith, ◌∙◌}
 use Rattle.std.proofs.lemmas.List.Elements.{All-cons, All-head, All-nil}
 use Rattle.moos_post.specs.declared.entry.Call.{Call}
@@ -18,7 +18,7 @@ use Rattle.moos_db.specs.Clients.{ClientState, IsClient}
 use Rattle.moos_db.specs.Subscriptions.{AreKnown, HasLatest, SubscriptionState, subscriptions_of, IsHeardBy, HasKnown, of_client, VariableState, VariablesState, with_inbox}
 use Rattle.moos_db.specs.Places.{inboxes_after, IsDb, IsLog, LogState, place_at, post_in}
 use Rattle.moos_db.specs.Registering.{catch_number, catch_post, StandsAt}
-use Rattle.moos_db.specs.Tables.{Row, rows_of, number_of}
+use Rattle.moos_db.specs.Tables.{GetsNumber, latest_post_of, number_of, Row}
 
 abbrev post : List ℕ → ℕ → Post
 post var stamp = record { stamp = stamp; source = 0; var = var; value = Num (pos 0) }
@@ -29,14 +29,32 @@ posts = post (codes "C") 10 ∷ post (codes "B") 20 ∷ post (codes "A") 30 ∷ 
 abbrev row : List ℕ → ℕ → Row
 row var number = record { var = var; number = number }
 
-table_of_latest_posts : rows_of posts ≡ row (codes "C") 3 ∷ row (codes "B") 1 ∷ row (codes "A") 2 ∷ []
-table_of_latest_posts = refl
-
-latest_of_c : number_of (codes "C") (rows_of posts) ≡ Some 3
+latest_of_c : latest_post_of (codes "C") posts ≡ Some 3
 latest_of_c = refl
 
-none_of_d : number_of (codes "D") (rows_of posts) ≡ None
+latest_of_b : latest_post_of (codes "B") posts ≡ Some 1
+latest_of_b = refl
+
+none_of_d : latest_post_of (codes "D") posts ≡ None
 none_of_d = refl
+
+-- In a table of C, B and A each has its number, whichever row comes first, and D has none.
+abbrev table : List Row
+table = row (codes "C") 0 ∷ row (codes "B") 1 ∷ row (codes "A") 2 ∷ []
+
+number_of_b : number_of (codes "B") table ≡ Some 1
+number_of_b = refl
+
+no_number_of_d : number_of (codes "D") table ≡ None
+no_number_of_d = refl
+
+-- With the number 3 for D the row of D may be anywhere, and no other number changes.
+d_is_numbered : GetsNumber (codes "D") 3 table (row (codes "D") 3 ∷ table)
+d_is_numbered var = rw (bytes_eq_comm (codes "D") var) (elim (bytes_eq var (codes "D")) as
+    (λ b. option_map (λ (one : Row). one.number) (cond b (Some (row (codes "D") 3)) (find (λ one. bytes_eq var one.var) table)) ≡ (if b then Some 3 else number_of var table)) [ true ↦ refl | false ↦ refl ])
+
+c_has_another : GetsNumber (codes "D") 3 table (row (codes "D") 3 ∷ row (codes "C") 1 ∷ []) → ⊥
+c_has_another numbered = omega (arith, ap (λ number. unwrap_or number 9) (numbered (codes "C")))
 
 -- The second post is of variable B at stamp 20; there is no fifth.
 letter : letter_at posts 1 ≡ Some (letter_of 1 (post (codes "B") 20))

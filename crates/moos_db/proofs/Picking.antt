@@ -12,19 +12,8 @@ use Rattle.moos_post.specs.Delivery.{after_catching_up, catches_up, Inbox, is_la
 use Rattle.moos_post.specs.History.{name_of}
 use Rattle.moos_post.specs.Patterns.{matches}
 use Rattle.moos_db.specs.Registering.{catch_number, catch_post}
-use Rattle.moos_db.specs.Tables.{Row, number_of, rows_from, rows_of, with_row}
+use Rattle.moos_db.specs.Tables.{latest_post_from, latest_post_of}
 use Rattle.moos_db.proofs.Hearing.{passed}
-use Rattle.moos_db.proofs.Latests.{number_of-with_row}
-
--- the number of the latest of these posts that is of the variable, the first of which has this number
-abbrev latest_number : List ℕ → ℕ → Option ℕ → List Post → Option ℕ
-latest_number var number found [] = found
-latest_number var number found (post ∷ posts) = latest_number var (suc number) (if bytes_eq post.var var then Some number else found) posts
-
-latest-rows : (var : List ℕ) (number : ℕ) (rows : List Row) (posts : List Post) → number_of var (rows_from number rows posts) ≡ latest_number var number (number_of var rows) posts
-latest-rows var number rows [] = refl
-latest-rows var number rows (post ∷ posts) =
-    latest-rows var (suc number) (with_row post.var number rows) posts ∙ ap (λ found. latest_number var (suc number) found posts) (number_of-with_row var post.var number rows)
 
 -- the post with this number is the latest of its variable
 pub record IsLatestOf (var : List ℕ) (posts : List Post) (number : ℕ) : Type 0 where
@@ -33,17 +22,17 @@ pub record IsLatestOf (var : List ℕ) (posts : List Post) (number : ℕ) : Type
   pub var_is : post.var ≡ var
   pub latest : is_latest post (drop (suc number) posts) ≡ true
 
-no-later : (var : List ℕ) (number : ℕ) (found : Option ℕ) (posts : List Post) → list_any (λ (other : Post). bytes_eq other.var var) posts ≡ false → latest_number var number found posts ≡ found
+no-later : (var : List ℕ) (number : ℕ) (found : Option ℕ) (posts : List Post) → list_any (λ (other : Post). bytes_eq other.var var) posts ≡ false → latest_post_from var number found posts ≡ found
 no-later var number found [] none = refl
 no-later var number found (post ∷ posts) none = through (bytes_eq post.var var) none (λ rest. no-later var (suc number) found posts rest)
   where
-    through : (b : Bool) → (b || list_any (λ (other : Post). bytes_eq other.var var) posts) ≡ false → (list_any (λ (other : Post). bytes_eq other.var var) posts ≡ false → latest_number var (suc number) found posts ≡ found) →
-        latest_number var (suc number) (if b then Some number else found) posts ≡ found
+    through : (b : Bool) → (b || list_any (λ (other : Post). bytes_eq other.var var) posts) ≡ false → (list_any (λ (other : Post). bytes_eq other.var var) posts ≡ false → latest_post_from var (suc number) found posts ≡ found) →
+        latest_post_from var (suc number) (if b then Some number else found) posts ≡ found
     through true is rest = absurd (let e : true ≡ false = is in cc)
     through false is rest = rest is
 
 -- what is found is the latest
-latest-found : (var : List ℕ) (number k : ℕ) (found : Option ℕ) (posts : List Post) → latest_number var number found posts ≡ Some k →
+latest-found : (var : List ℕ) (number k : ℕ) (found : Option ℕ) (posts : List Post) → latest_post_from var number found posts ≡ Some k →
     ((found ≡ Some k) × (list_any (λ (other : Post). bytes_eq other.var var) posts ≡ false)) ⊎ ((place : ℕ) × (number + place ≡ k) × IsLatestOf var posts place)
 latest-found var number k found [] is = inl (is, refl)
 latest-found var number k found (post ∷ posts) is = through (bytes_eq post.var var) refl (latest-found var (suc number) k (if bytes_eq post.var var then Some number else found) posts is)
@@ -60,26 +49,26 @@ latest-found var number k found (post ∷ posts) is = through (bytes_eq post.var
     through false same (inl past) =
         inl (ap (λ b. if b then Some number else found) (sym same) ∙ past.0, ap (λ b. b || list_any (λ (other : Post). bytes_eq other.var var) posts) same ∙ past.1)
 
-pub rows-latest : (posts : List Post) (var : List ℕ) (k : ℕ) → number_of var (rows_of posts) ≡ Some k → IsLatestOf var posts k
-rows-latest posts var k is = elim (latest-found var 0 k None posts (sym (latest-rows var 0 [] posts) ∙ is)) [
+pub found-is-latest : (posts : List Post) (var : List ℕ) (k : ℕ) → latest_post_of var posts ≡ Some k → IsLatestOf var posts k
+found-is-latest posts var k is = elim (latest-found var 0 k None posts is) [
   | inl none ↦ absurd (let e : None ≡ Some k = none.0 in cc)
   | inr found ↦ subst (IsLatestOf var posts) (let e : 0 + found.0 ≡ k = found.1 in omega arith) found.2
 ]
 
 -- and the latest is found
-found-latest : (number place : ℕ) (found : Option ℕ) (posts : List Post) (post : Post) → slice_get posts place ≡ Some post → is_latest post (drop (suc place) posts) ≡ true → latest_number post.var number found posts ≡ Some (number + place)
+found-latest : (number place : ℕ) (found : Option ℕ) (posts : List Post) (post : Post) → slice_get posts place ≡ Some post → is_latest post (drop (suc place) posts) ≡ true → latest_post_from post.var number found posts ≡ Some (number + place)
 found-latest number place found [] post there latest = absurd (let e : None ≡ Some post = there in cc)
 found-latest number zero found (one ∷ posts) post there latest =
     let same : one ≡ post = (let e : Some one ≡ Some post = there in cc) in
-    ap (λ b. latest_number post.var (suc number) (if b then Some number else found) posts) ((bytes_eq-Decides one.var post.var).1 (ap (λ (p : Post). p.var) same))
+    ap (λ b. latest_post_from post.var (suc number) (if b then Some number else found) posts) ((bytes_eq-Decides one.var post.var).1 (ap (λ (p : Post). p.var) same))
     ∙ no-later post.var (suc number) (Some number) posts (not-true (list_any (λ (other : Post). bytes_eq other.var post.var) posts) latest)
     ∙ (let e : number ≡ number + 0 = omega arith in ap (λ n. Some n) e)
 found-latest number (suc place) found (one ∷ posts) post there latest =
     found-latest (suc number) place (if bytes_eq one.var post.var then Some number else found) posts post there latest ∙ (let e : suc number + place ≡ number + suc place = omega arith in ap (λ n. Some n) e)
 
-pub latest-in-rows : (posts : List Post) (number : ℕ) (post : Post) → slice_get posts number ≡ Some post → is_latest post (drop (suc number) posts) ≡ true → number_of post.var (rows_of posts) ≡ Some number
-latest-in-rows posts number post there latest =
-    latest-rows post.var 0 [] posts ∙ found-latest 0 number None posts post there latest ∙ (let e : 0 + number ≡ number = omega arith in ap (λ n. Some n) e)
+pub latest-is-found : (posts : List Post) (number : ℕ) (post : Post) → slice_get posts number ≡ Some post → is_latest post (drop (suc number) posts) ≡ true → latest_post_of post.var posts ≡ Some number
+latest-is-found posts number post there latest =
+    found-latest 0 number None posts post there latest ∙ (let e : 0 + number ≡ number = omega arith in ap (λ n. Some n) e)
 
 -- numbers that rise, from this one on
 abbrev pub IsAbove : ℕ → List ℕ → Type 0

@@ -30,12 +30,12 @@ use Rattle.moos_db.specs.Clients.{ClientState, is_with_patterns, registration_of
 use Rattle.moos_db.specs.Subscriptions.{AreKeptAs, AreKnown, AreNoted, HasLatest, IsHeardBy, VariableState, VariablesState, fresh_subscription, name_at, with_inbox, with_lives}
 use Rattle.moos_db.specs.Places.{AreKept, inboxes_after}
 use Rattle.moos_db.specs.Registering.{AreEach, AreRoomier, HasRoomThrough, Heard, IsPrepared, IsRoomier, PreparedState, StandsAt, catch_number, heard_through, heard_where, latest_at, latest_heard, latest_prepared, variable_names, prepared_of, with_prepared}
-use Rattle.moos_db.specs.Tables.{number_of, rows_of}
+use Rattle.moos_db.specs.Tables.{latest_post_of}
 use Rattle.moos_db.proofs.AfterCalls.{AreKept-quiet}
 use Rattle.moos_db.proofs.AfterRegistering.{roomier-names}
 use Rattle.moos_db.proofs.Caught.{noted-length}
 use Rattle.moos_db.proofs.Changes.{all-at, all-same, AreNoted-names, at-client, at-others, heard-changed, named-at, names-each}
-use Rattle.moos_db.proofs.Picking.{ArePicked, IsAbove, IsLatestOf, catching-picked, is_made, latest-in-rows, rows-latest}
+use Rattle.moos_db.proofs.Picking.{ArePicked, IsAbove, IsLatestOf, catching-picked, found-is-latest, is_made, latest-is-found}
 
 -- more room
 
@@ -190,7 +190,7 @@ prepared-latest : (posts : List Post) (variables : List VariableState) (number :
 prepared-latest posts variables number all latests among =
     let from : (place : ℕ) × (latest_at variables place ≡ Some number) = prepared-from variables number all (one-of number (latest_prepared variables all) among) in
     let variable = latest-there variables from.0 number from.1 in
-    (variable.0.name, rows-latest posts variable.0.name number (sym (all-at (HasLatest posts) variables from.0 variable.0 latests variable.1) ∙ variable.2))
+    (variable.0.name, found-is-latest posts variable.0.name number (sym (all-at (HasLatest posts) variables from.0 variable.0 latests variable.1) ∙ variable.2))
 
 -- the numbers of the latest posts of the variables that the new registrations hear
 are-picked : (posts : List Post) (client : ℕ) (inbox : Inbox) (regs : List Reg) (variables : VariablesState) (latest : List ℕ) → All (λ (live : Live). live.made < inbox.entries) inbox.lives →
@@ -214,7 +214,7 @@ are-picked posts client inbox regs variables latest past latests noted up only e
           let variable = named-at variables.all place.0 post.var name in
           let is : latest_at variables.all place.0 ≡ Some number
           = ap (option_and_then (λ (v : VariableState). v.latest)) variable.1 ∙ all-at (HasLatest posts) variables.all place.0 variable.0 latests variable.1
-          ∙ ap (λ var. number_of var (rows_of posts)) variable.2 ∙ latest-in-rows posts number post at newest in
+          ∙ ap (λ var. latest_post_of var posts) variable.2 ∙ latest-is-found posts number post at newest in
           let old : list_any (is_made made post.var) inbox.lives ≡ false
           = list_any_none (is_made made post.var) inbox.lives (All-weaker (λ (live : Live). live.made < made) (λ live. is_made made post.var live ≡ false)
           (λ live before. ap (λ b. b && matches live.reg.var post.var) (ne_eqb live.made made (λ same. omega (arith, before, same)))) inbox.lives past) in

@@ -8,7 +8,7 @@ use Rattle.moos_post.specs.Delivery.{Inbox, is_past, last_stamp, Live}
 use Rattle.moos_post.specs.Patterns.{matches}
 use Rattle.moos_db.specs.declared.registration.Registration.{Registration}
 use Rattle.moos_db.specs.Clients.{AreClients, ClientState, mailed_once}
-use Rattle.moos_db.specs.Tables.{Row, number_of, rows_of, with_row}
+use Rattle.moos_db.specs.Tables.{GetsNumber, latest_post_of, number_of, Row}
 
 -- a live registration of a client that hears a variable, the entry that made it, and the stamp of the last post of the variable that
 -- came through it
@@ -112,7 +112,7 @@ AreKnown clients inboxes numbers = (client : ℕ) → client < clients → All (
 
 -- a variable's latest post is that of the variable among these
 abbrev pub HasLatest : List Post → VariableState → Type 0
-HasLatest posts variable = variable.latest ≡ number_of variable.name (rows_of posts)
+HasLatest posts variable = variable.latest ≡ latest_post_of variable.name posts
 
 -- Each variable is heard as the inboxes say, its latest post is that among these, and none came through but of these variables.
 pub record AreHeard (clients : ℕ) (inboxes : ℕ → Inbox) (posts : List Post) (variables : VariablesState) : Type 0 where
@@ -127,7 +127,7 @@ pub record IsAdded (clients : List ClientState) (var : List ℕ) (before after :
   pub each : (client : ℕ) → client < length clients → of_client client subscriptions ≡ fresh_subscriptions client var (lives_at clients client)
   pub within : All (λ subscription. subscription.client < length clients) subscriptions
   pub all : after.all ≡ before.all ++ record { name = var; latest = None; subscriptions = subscriptions; room = room } ∷ []
-  pub numbers : after.numbers ≡ with_row var (length before.all) before.numbers
+  pub numbers : GetsNumber var (length before.all) before.numbers after.numbers
   pub noted : after.noted ≡ before.noted
 
 -- nothing changed but that a variable was added, or nothing

@@ -1,16 +1,15 @@
 // A number for each variable.
-ghost use Rattle.std.specs.Prelude.{◌≡◌, [], map, OnOk, OnErr};
+ghost use Rattle.std.specs.Prelude.{◌≡◌, [], OnOk, OnErr};
 
-use indexmap::IndexMap;
 use moos_post::{Name, NoMemory};
 use std::alloc::Global;
+use std::collections::HashMap;
 use std::marker::Model;
 
-// A number for each variable, in the order in which the variables were first seen. Looking one up and setting one take
-// constant time, on average.
+// A number for each variable. Looking one up and setting one take constant time, on average.
 #[derive(Drop)]
 pub(crate) struct Table {
-    rows: IndexMap<Vec<u8>, u64>,
+    rows: HashMap<Vec<u8>, u64>,
 }
 
 impl Model for Table {
@@ -23,13 +22,13 @@ impl Model for Table {
 }
 
 impl Table {
-    ghost use Rattle.moos_db.specs.Tables.{number_of, with_row};
+    ghost use Rattle.moos_db.specs.Tables.{GetsNumber, number_of};
 
     pub fn new(alloc: Global) -> Table
         ensures { result ≡ [] }
     {
         Table {
-            rows: IndexMap::new(alloc),
+            rows: HashMap::new(alloc),
         }
     }
 
@@ -42,13 +41,9 @@ impl Table {
 
     // Gives the variable this number.
     pub fn set(&mut self, alloc: Global, var: &Name, number: u64) -> Result<(), NoMemory>
-        ensures ok { OnOk result (self.new ≡ with_row var.now number self.old) }
+        ensures ok { OnOk result (GetsNumber var.now number self.old self.new) }
         ensures same { OnErr result (self.new ≡ self.old) }
     {
-        if let Some(stands) = self.rows.get_mut(var.bytes()) {
-            *stands = number;
-            return Ok(());
-        }
         let var = Vec::from_slice(alloc, var.bytes())?;
         self.rows.insert(var, number)?;
         Ok(())

@@ -1,14 +1,15 @@
-use Rattle.std.proofs.Common.{◌≡◌, ◌≤◌, List, ℕ, length, drop}
+use Rattle.std.proofs.Common.{◌≡◌, List, ℕ, bytes_eq}
+use Rattle.std.specs.List.{IsDistinct}
+use Rattle.std.specs.Map.{keys_of}
+use Rattle.std.specs.Option.{option_or}
+use Rattle.std.specs.Ordering.{on}
 use Rattle.helm_cond.specs.Infos.{knowledge_of}
 use Rattle.helm_cond.proofs.Tables.{value_at}
 use Rattle.helm_cond.proofs.info.Info.copy.Given as goal
 
--- What stands from here on is known in the copy.
-abbrev pub invariant-loop-left : goal.invariant-loop-left
-invariant-loop-left l = record {
-  within : l.left ≤ length l.self.table.entries;
-  known : (var : List ℕ) → knowledge_of l.copied var ≡ value_at (λ key. key.items) var (drop l.left l.self.table.entries);
+-- What isn't left is known in the copy.
+abbrev pub invariant-loop-var : goal.invariant-loop-var
+invariant-loop-var l = record {
+  distinct : IsDistinct (on (λ key. key.items) bytes_eq) (keys_of l.var-iterator);
+  known : (var : List ℕ) → option_or (value_at (λ key. key.items) var l.var-iterator) (knowledge_of l.copied var) ≡ knowledge_of l.self var;
 }
-
-abbrev pub decreases-loop-left : goal.decreases-loop-left
-decreases-loop-left l = l.left

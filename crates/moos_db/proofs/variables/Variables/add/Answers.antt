@@ -1,6 +1,6 @@
 use Rattle.std.proofs.Common.{◌≡◌, ◌∙◌, ◌++◌, ◌∷◌, [], List, None, ap, length, option_map, refl, rules, sym, subst, vec_capacity, vec_len, ◌-◌}
 use Rattle.moos_db.specs.Subscriptions.{AreNumbers, IsAdded, VariableState, VariablesState, name_at}
-use Rattle.moos_db.specs.Tables.{number_of, with_row}
+use Rattle.moos_db.specs.Tables.{GetsNumber, number_of}
 use Rattle.moos_db.proofs.Adding.{numbers-added}
 use Rattle.moos_db.proofs.Standing.{slice_get-seam}
 use Rattle.moos_db.proofs.variables.Variables.add.Goals as goal
@@ -18,8 +18,8 @@ invariant_of-self-2 c =
     let unknown : number_of c.args.var.now before.numbers ≡ None = subst (λ variables. number_of c.args.var.now variables.numbers ≡ None) (sym c.self.view_is) c.requires.unknown in
     let all_is : c.push_reserved.new.self.items ≡ before.all ++ new ∷ [] =
     pushed-is before.all c.reserve.new.self.items c.push_reserved.new.self.items _ new c.push_reserved.ensures.items c.reserve.ensures.items c.in_ok-name.ensures refl refl refl in
-    let numbers_are : c.set.new.self ≡ with_row c.args.var.now (length before.all) before.numbers = c.in_ok-set.ensures.ok ∙ ap (λ n. with_row c.args.var.now n before.numbers) (c.len-number.ensures ∙ counted) in
-    subst AreNumbers (λ i. record { all = sym all_is i; numbers = sym numbers_are i; noted = before.noted }) (numbers-added before new c.self.invariant unknown)
+    let numbered : GetsNumber c.args.var.now (length before.all) before.numbers c.set.new.self = subst (λ n. GetsNumber c.args.var.now n before.numbers c.set.new.self) (c.len-number.ensures ∙ counted) c.in_ok-set.ensures.ok in
+    subst AreNumbers (λ i. record { all = sym all_is i; numbers = c.set.new.self; noted = before.noted }) (numbers-added before new c.set.new.self c.self.invariant unknown numbered)
 
 pub returns-clause-number : goal.returns-clause-number
 returns-clause-number c =
@@ -39,13 +39,13 @@ returns-clause-added c =
     let unknown : number_of c.args.var.now before.numbers ≡ None = subst (λ variables. number_of c.args.var.now variables.numbers ≡ None) (sym c.self.view_is) c.requires.unknown in
     let all_is : c.push_reserved.new.self.items ≡ before.all ++ new ∷ [] =
     pushed-is before.all c.reserve.new.self.items c.push_reserved.new.self.items _ new c.push_reserved.ensures.items c.reserve.ensures.items c.in_ok-name.ensures refl refl refl in
-    let numbers_are : c.set.new.self ≡ with_row c.args.var.now (length before.all) before.numbers = c.in_ok-set.ensures.ok ∙ ap (λ n. with_row c.args.var.now n before.numbers) (c.len-number.ensures ∙ counted) in
+    let numbered : GetsNumber c.args.var.now (length before.all) before.numbers c.set.new.self = subst (λ n. GetsNumber c.args.var.now n before.numbers c.set.new.self) (c.len-number.ensures ∙ counted) c.in_ok-set.ensures.ok in
     subst (λ was. IsAdded c.args.clients.now c.args.var.now was (record { all = c.push_reserved.new.self.items; numbers = c.set.new.self; noted = c.self.inside.noted.items })) c.self.view_is (record {
       subscriptions = new.subscriptions;
       room = new.room;
       each = c.in_ok-subscriptions.ensures.each;
       within = c.in_ok-subscriptions.ensures.within;
       all = all_is;
-      numbers = numbers_are;
+      numbers = numbered;
       noted = refl;
     })
