@@ -1,8 +1,9 @@
 // Two scripts played at once, with a bridge between their communities.
-ghost use Rattle.std.specs.Prelude.{◌≡◌, IfOk, OnOk};
+ghost use Rattle.std.specs.Prelude.{◌≡◌, [], ◌∷◌, None, IfOk, OnOk};
+ghost use Rattle.moos_bridged.specs.Communities.{community_history, community_script, IsResting};
 ghost use Rattle.moos_bridged.specs.Ending.{HaveShared};
 ghost use Rattle.moos_bridged.specs.Opening.{AreOpened};
-ghost use Rattle.moos_share.specs.Bridged.{IsShared, names_bridged, regs_of_rules};
+ghost use Rattle.moos_share.specs.Bridged.{IsShared, bridge_opening, names_bridged, regs_of_rules};
 ghost use Rattle.script_reader.specs.Validity.{IsValid};
 
 use crate::by_stamp::share_by_stamp;
@@ -52,34 +53,51 @@ pub fn share<R: Threads + Wait + Sync, G: Gate>(
     ensures second { IfOk result (λ shared. shared.second.names ≡ names_bridged second.now) }
     ensures shared { IfOk result (λ shared. IsShared order first.now second.now rules shared.first.history shared.second.history) }
 {
-    let regs = regs_of(alloc, &rules)?;
-    let mut bridge = Bridge::make(rules);
-    let mut one = Community::make(alloc, first)?;
+    let mut one = opened(rt, alloc, first, &rules)?;
     let mut two = Community::make(alloc, second)?;
-    one.register(rt, alloc, regs)?;
-    share_in_order(rt, alloc, &mut bridge, &mut one, &mut two, order, gate)?;
+    share_opened(rt, alloc, rules, &mut one, &mut two, order, gate)?;
     Ok(Shared {
         first: one.close(),
         second: two.close(),
     })
 }
 
-// Plays both scripts in this order, once the bridge has registered.
-fn share_in_order<R: Threads + Wait + Sync, G: Gate>(
+// The community of this script, in which the bridge has registered for what these rules select, and no line is played.
+fn opened<'a, R: Wait>(
     rt: &R,
     alloc: Global,
-    bridge: &mut Bridge,
+    script: &'a Script,
+    rules: &Rules,
+) -> Result<Community<'a>, NoMemory>
+    requires { IsValid script.now }
+    ensures resting { IfOk result IsResting }
+    ensures script { IfOk result (λ one. community_script one ≡ script.now) }
+    ensures opened { IfOk result (λ one. community_history one ≡ bridge_opening (community_script one) rules.now ∷ []) }
+    ensures from { IfOk result (λ one. one.from ≡ 0) }
+{
+    let regs = regs_of(alloc, rules)?;
+    let mut one = Community::make(alloc, script)?;
+    one.register(rt, alloc, regs)?;
+    Ok(one)
+}
+
+// Plays both scripts in this order, with a bridge of these rules that has registered.
+fn share_opened<R: Threads + Wait + Sync, G: Gate>(
+    rt: &R,
+    alloc: Global,
+    rules: Rules,
     one: &mut Community,
     two: &mut Community,
     order: Order,
     gate: &G,
 ) -> Result<(), NoMemory>
-    requires ready { AreOpened bridge.old one.old two.old }
-    ensures { OnOk result (HaveShared order bridge.old.rules one.old one.new two.old two.new) }
+    requires ready { AreOpened (record { rules = rules; unposted = None }) one.old two.old }
+    ensures { OnOk result (HaveShared order rules one.old one.new two.old two.new) }
 {
+    let mut bridge = Bridge::make(rules);
     match order {
-        Order::Stamp => share_by_stamp(rt, alloc, bridge, one, two, gate),
-        Order::Race => share_by_race(rt, alloc, bridge, one, two, gate),
+        Order::Stamp => share_by_stamp(rt, alloc, &mut bridge, one, two, gate),
+        Order::Race => share_by_race(rt, alloc, &mut bridge, one, two, gate),
     }
 }
 

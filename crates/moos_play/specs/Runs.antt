@@ -1,15 +1,17 @@
 -- A run from one step to the next, with the lock and the seats behind it.
-use Rattle.std.specs.Prelude.{◌≡◌, ◌⊎◌, ℕ, ◌*◌, ◌≤◌, Bool, true, suc, [], length, None, IfSome, OnErr, OnOk, option_map, Result}
+use Rattle.std.specs.Prelude.{◌≡◌, ◌⊎◌, ℕ, ◌*◌, ◌≤◌, Bool, true, suc, List, [], ◌++◌, length, Option, None, IfSome, OnErr, OnOk, option_map, Result}
 use Rattle.moos_lawful.specs.Schedules.{IsLawfulSoFar}
 use Rattle.moos_play.specs.declared.stage.Stage.{Stage}
 use Rattle.moos_play.specs.declared.helm_client.HelmClient.{HelmClient}
-use Rattle.moos_play.specs.Lawful.{heard_of, helm_number, ticks_to}
+use Rattle.moos_play.specs.declared.run.HelmRun.{HelmRun}
+use Rattle.moos_play.specs.Lawful.{heard_of, helm_number, helm_setup_with, names_with, ticks_to}
 use Rattle.moos_play.specs.Plays.{AddsAt, GoesOnWith, known_clients_in, Playing}
 use Rattle.moos_play.specs.Schedules.{schedule_with, tick_period}
-use Rattle.moos_play.specs.Steered.{helm_of, IsDue, IsUnderWay, iterations_in, KeepsEach, parts, helm_setup_of, tick_due, ticks_in}
-use Rattle.moos_step.specs.Steps.{IsGathered, IsWhole}
+use Rattle.moos_play.specs.Steered.{helm_of, IsDue, IsUnderWay, IsUnticked, iterations_in, KeepsEach, parts, helm_setup_of, tick_due, ticks_in}
+use Rattle.moos_step.specs.Steps.{IsGathered, IsWhole, KnowsNothing}
 use Rattle.script_reader.specs.declared.script.Order.{Order}
 use Rattle.script_reader.specs.declared.script.Order.TheVariants.{Stamp, Race}
+use Rattle.script_reader.specs.declared.script.Script.{Script}
 use Rattle.script_reader.specs.Validity.{IsValid}
 use Rattle.turn_lock.specs.Passes.{Begins}
 
@@ -50,6 +52,18 @@ pub record IsAtPlay (run : Stage) : Type 0 where
   pub under : IsUnderWay run.order run.script.now run.lock run.helm_client run.from run.first.seat
   pub calls : length run.calls.items ≡ length run.script.now.names
   pub period : IfSome run.helm_client (λ helm. (1 ≤ helm.period) × (helm.ticks ≤ ticks_to run.script.now.stop (helm_setup_of helm)))
+
+-- A run of this script before its first call: each client has a seat, and the helm, if there is one, has yet to make its opening.
+pub record IsUnopened (script : Script) (helm : Option HelmRun) (further : List (List ℕ)) (order : Order) (run : Stage) : Type 0 where
+  pub of : run.script.now ≡ script
+  pub in_order : run.order ≡ order
+  pub named : run.lock.base ≡ names_with script helm ++ further
+  pub steered : helm_of run.helm_client ≡ option_map (helm_setup_with script) helm
+  pub gathered : IsGathered run.lock run.first.seat
+  pub nothing : KnowsNothing run.first.seat
+  pub unticked : IfSome run.helm_client IsUnticked
+  pub calls : length run.calls.items ≡ length script.names
+  pub unplayed : run.from ≡ 0
 
 -- a run between two rounds: what was played is lawful as far as it goes, and all iterations are handed out
 pub record IsPaused (run : Stage) : Type 0 where

@@ -7,12 +7,10 @@ ghost use Rattle.script_reader.specs.Validity.{IsValid};
 
 use crate::round_made::Round;
 use crate::run::{HelmRun, Ran};
-use crate::seats::{helm_client_for, open_all, seats_for};
 use crate::stage::Stage;
 use moos_db::Db;
 use moos_io::Gate;
 use moos_post::{List, Names, NoMemory};
-use moos_step::Player;
 use script_reader::{Order, Script};
 use std::alloc::Global;
 use std::marker::Model;
@@ -67,23 +65,8 @@ impl<'a> Play<'a> {
         ensures begun { IfOk result (λ play. history_in play ≡ opening (helm_in play)) }
         ensures between { IfOk result IsBetween }
     {
-        let (lock, mut seat, calls) = seats_for(alloc, script, &helm, &further)?;
-        let mut helm_client = helm_client_for(alloc, script, helm);
-        open_all(rt, alloc, &lock, &mut seat, &mut helm_client, gate)?;
-        let first = Player {
-            seat,
-            calls: 0,
-            ended: Ok(()),
-        };
-        let run = Stage {
-            script,
-            lock,
-            first,
-            helm_client,
-            calls,
-            from: 0,
-            order,
-        };
+        let mut run = Stage::make(alloc, script, helm, &further, order)?;
+        run.open(rt, alloc, gate)?;
         Ok(Play { run, whole: true })
     }
 

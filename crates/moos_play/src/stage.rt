@@ -1,16 +1,20 @@
 // A run from one step to the next: the clients' lines and the helm's ticks, in the order that was asked for.
-ghost use Rattle.std.specs.Prelude.{◌≡◌, ◌≢◌, ◌<◌, None, Ok, true, false, drop, length, OnOk};
+ghost use Rattle.std.specs.Prelude.{◌≡◌, ◌≢◌, ◌<◌, ◌++◌, ◌^◌, None, Ok, true, false, drop, length, IfOk, IfSome, OnOk};
+ghost use Rattle.moos_play.specs.Lawful.{MayStart, names_with};
 ghost use Rattle.moos_play.specs.Plays.{left_in, next_stamp};
-ghost use Rattle.moos_play.specs.Runs.{HasAllSeats, HasPlayedOn, IsAtPlay, MayGoOn, MayPlay, shown_by};
-ghost use Rattle.moos_play.specs.Steered.{IsBehind, IsDue, iterations_in, tick_due};
+ghost use Rattle.moos_play.specs.Runs.{HasAllSeats, HasPlayedOn, IsAtPlay, IsUnopened, MayGoOn, MayPlay, shown_by};
+ghost use Rattle.moos_play.specs.Steered.{HasOpened, helm_of, IsBehind, IsDue, IsUnticked, iterations_in, tick_due};
+ghost use Rattle.moos_step.specs.Steps.{IsGathered, KnowsNothing};
+ghost use Rattle.script_reader.specs.Validity.{IsValid};
 
 use crate::helm_client::{HelmClient, lead};
 use crate::race::race;
-use crate::run::Ran;
+use crate::run::{HelmRun, Ran};
+use crate::seats::{helm_client_for, open_all, seats_for};
 use crate::stamps::{due_end, tick_due};
 use moos_client::Lock;
 use moos_io::Gate;
-use moos_post::{List, NoMemory};
+use moos_post::{List, Names, NoMemory};
 use moos_step::{Player, play_step};
 use script_reader::{Order, Script};
 use std::alloc::Global;
@@ -30,6 +34,61 @@ pub(crate) struct Stage<'a> {
 }
 
 impl<'a> Stage<'a> {
+    /// A run of this script in which nobody has made a call.
+    pub(crate) fn make(
+        alloc: Global,
+        script: &'a Script,
+        helm: Option<HelmRun>,
+        further: &Names,
+        order: Order,
+    ) -> Result<Stage<'a>, NoMemory>
+        requires valid { IsValid script.now }
+        requires helm { IfSome helm MayStart }
+        requires few { length (names_with script.now helm ++ further.now) < 2 ^ 32 }
+        ensures { IfOk result (IsUnopened script.now helm further.now order) }
+    {
+        let (lock, seat, calls) = seats_for(alloc, script, &helm, further)?;
+        let helm_client = helm_client_for(alloc, script, helm);
+        let first = Player {
+            seat,
+            calls: 0,
+            ended: Ok(()),
+        };
+        Ok(Stage {
+            script,
+            lock,
+            first,
+            helm_client,
+            calls,
+            from: 0,
+            order,
+        })
+    }
+
+    /// Has the helm, if there is one, make its opening.
+    pub(crate) fn open<R: Wait, G: Gate>(
+        &mut self,
+        rt: &R,
+        alloc: Global,
+        gate: &G,
+    ) -> Result<(), NoMemory>
+        requires gathered { IsGathered self.old.lock self.old.first.seat }
+        requires nothing { KnowsNothing self.old.first.seat }
+        requires new { IfSome self.old.helm_client (λ helm. IsUnticked helm × (helm.number < length self.old.lock.base)) }
+        ensures rest { self.new ≡ record self.old { first = record self.old.first { seat = self.new.first.seat }; helm_client = self.new.helm_client } }
+        ensures same { OnOk result (helm_of self.new.helm_client ≡ helm_of self.old.helm_client) }
+        ensures opened { OnOk result (HasOpened self.new.lock self.new.helm_client self.new.first.seat) }
+    {
+        open_all(
+            rt,
+            alloc,
+            &self.lock,
+            &mut self.first.seat,
+            &mut self.helm_client,
+            gate,
+        )
+    }
+
     /// Plays the next step: in order Stamp the lines of the next stamp or the helm's next tick, and in order Race
     /// everything. It answers false if nothing was left. Even if memory is missing, the first seat has all others.
     pub(crate) fn go_on<R: Threads + Wait + Sync, G: Gate>(
