@@ -43,6 +43,8 @@ fn first_file_of_a_name_is_loaded(rt: HostRuntime) {
 const REAL: &[(&[u8], Result<(), LoadFault>, &str)] = &[
     (b"moos_io_loaded", Ok(()), ">content\n"),
     (b"moos_io_absent", Err(LoadFault::Failed), ">"),
+    (b" moos_io_loaded", Err(LoadFault::Failed), ">"),
+    (b"moos_io_loaded ", Err(LoadFault::Failed), ">"),
     (b".", Err(LoadFault::Failed), ">"),
     (b"\xff", Err(LoadFault::Failed), ">"),
 ];
