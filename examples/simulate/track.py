@@ -35,7 +35,7 @@ def contacts(report):
 def rings(behaviours):
     """The points of each behaviour with points, and their capture radius."""
     found = []
-    for block in behaviours.split("}"):
+    for block in re.sub(r"pts=\{([^}\n]*)\}", r"\1", behaviours).split("}"):
         points = re.search(r"^\s*points?\s*=\s*(.*)$", block, re.M)
         if points:
             radius = re.search(r"^\s*(?:capture_)?radius\s*=\s*([\d.]+)", block, re.M)
