@@ -4,10 +4,10 @@
     bench/memory.py PROGRAM [--alpha] [--jobs N]
 
 PROGRAM is crates/moos_top/out/moos_top, or another that takes the same words. A run is good if it ends with status 0 and has written a
-report that may come, or with status 6 and `moos: no memory` and has written the beginning of such a report, which is empty for every
-job but `play`. A line for each input: how many runs there were, how each sort of them ended, and how many were bad; with --alpha the
-survey too, which asks some thousands of times (minutes). The exit status is 1 if a run was bad. It needs a C compiler, and is no part
-of the gate: that memory runs out is a matter of contracts, and this tries the program as it was built.
+report that may come, or with status 6 and `moos: no memory` and has written the beginning of such a report, which is empty for every job
+but `play` and `simulate`. A line for each input: how many runs there were, how each sort of them ended, and how many were bad; with --alpha
+the survey and a simulated vehicle too, which ask some thousands of times (minutes). The exit status is 1 if a run was bad. It needs a C
+compiler, and is no part of the gate: that memory runs out is a matter of contracts, and this tries the program as it was built.
 """
 import argparse
 import itertools
@@ -56,10 +56,11 @@ class Input:
     """Words of the program, the folder that it is run in, and all that it may write."""
 
     def __init__(self, words, folder, outputs):
-        self.words, self.folder, self.outputs, self.is_play = words, os.path.join(TOP, folder), outputs, words[0] == "play"
+        self.words, self.folder, self.outputs = words, os.path.join(TOP, folder), outputs
+        self.writes_as_it_goes = words[0] in ("play", "simulate")
 
     def may_begin(self, out):
-        return any(output.startswith(out) for output in self.outputs) if self.is_play else out == b""
+        return any(output.startswith(out) for output in self.outputs) if self.writes_as_it_goes else out == b""
 
 
 def run(program, given, settings, board):
@@ -117,12 +118,14 @@ def inputs_of(trials, alpha):
         "first": (["play", "examples/first/script.txt"], ""),
         "modes": (["play", "examples/modes/script.txt", "examples/modes/mission.moos"], ""),
         "station, 16 workers": (["play", "examples/station/script.txt", "examples/station/mission.moos", "--workers", "16"], ""),
+        "share": (["share", "examples/share/alpha.txt", "examples/share/bravo.txt", "examples/share/alpha.bridge"], ""),
         "solve": (["solve", "examples/problems/course-speed.txt"], ""),
         "solve, 16 workers": (["solve", "examples/problems/course-speed.txt", "--workers", "16"], ""),
     }
     if alpha:
         words["alpha"] = (["play", "alpha.script", "alpha.moos"], "examples/alpha")
         words["alpha, 16 workers"] = (["play", "alpha.script", "alpha.moos", "--workers", "16"], "examples/alpha")
+        words["avoid"] = (["simulate", "meet.script", "mission.moos", "ship.vehicle", "ship.contacts"], "examples/avoid")
     found = {name: Input(line, folder, [trials.known(line, folder)]) for name, (line, folder) in words.items()}
     beside = ["play", "examples/beside/script.txt"]
     found["beside"] = Input(beside, "", beside_reports(False))
@@ -133,7 +136,7 @@ def inputs_of(trials, alpha):
 def main():
     parser = argparse.ArgumentParser(description=__doc__, formatter_class=argparse.RawDescriptionHelpFormatter)
     parser.add_argument("program")
-    parser.add_argument("--alpha", action="store_true", help="the survey too")
+    parser.add_argument("--alpha", action="store_true", help="the survey and a simulated vehicle too")
     parser.add_argument("--jobs", type=int, default=os.cpu_count() or 1, help="runs beside each other")
     given = parser.parse_args()
     with tempfile.TemporaryDirectory() as scratch:
