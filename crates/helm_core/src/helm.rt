@@ -136,8 +136,8 @@ impl Helm {
 
     /// One iteration at a stamp, in milliseconds, that isn't before the last one's: the helm learns the mail, sees whether
     /// it is parked, finds its mode, updates its behaviours, steps those that run, decides by the functions of the active
-    /// ones, and lists what it posts. It has 1 to 16 workers for what it solves. If no memory is left the helm is as it
-    /// was.
+    /// ones, and lists what it posts. It has 1 to 16 workers for what it solves. If no memory is left the helm has
+    /// heard what it had heard before.
     pub fn tick<R: Threads + Wait + Sync, G: Gate>(
         &mut self,
         rt: &R,

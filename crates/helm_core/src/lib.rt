@@ -3,7 +3,7 @@
 //!
 //! The layer above relies on this: a `Helm` stands for the list of mails that it has heard, each with the stamp of its
 //! iteration, and `tick` gives the iteration that `iteration_at` of specs/ says of that list with one mail more. After want
-//! of memory the helm is as it was.
+//! of memory it stands for the same list as before.
 //!
 //! Read `iteration`, `allstop`, `helm_view` for what is kept of the mails, `doer` for a behaviour by its type, `behavior` for what is kept of a behaviour, `judging`,
 //! `stepping` and `begun` for its turn, `named`, `making` and `spawning` for letters to templates, `turned` and `behavior_list` for the turns of

@@ -70,8 +70,8 @@ pub fn func_law(func: &Func)
 impl Func {
     /// The function of these pieces over the domain, or the first refusal: `TooMany` above 4,096
     /// pieces; `NotPartition` if some point lies in no piece or in several; `ValueOut` if a
-    /// value is outside 0 to 100,000; `NoMemory` if none is left for the grid. The pieces are kept
-    /// as they are given.
+    /// value is outside 0 to 100,000; `NoMemory` if none is left for the grid or for the place that equal
+    /// functions share. The pieces are kept as they are given.
     pub fn make(alloc: Global, domain: &Domain, pieces: Vec<Piece>) -> Result<Func, FuncFault>
         requires { IsTrue (are_pieces_of domain.now pieces.items) }
         ensures { MadeFunction domain.now pieces.items result }

@@ -99,8 +99,7 @@ pub record AreParted (lock : CommunityLock) (before first : SeatState) (players 
   pub each : (n : ℕ) → times_met n first.met + times_met n (map met_of players) ≡ times_met n before.met
   pub known : (n : ℕ) → events_in (first.met ++ map met_of players) n ≡ events_in before.met n
 
--- Of the clients below one number, but that of number 0, just those are parted that have some of the lines, and none that
--- isn't below.
+-- Of the clients below one number, but that of number 0, each that has some of the lines is parted; and none is that isn't below.
 pub record AreBusy (lines : List Entry) (client : ℕ) (players : List Player) : Type 0 where
   pub busy : (n : ℕ) → 0 < n → n < client → times_met n (map met_of players) ≡ 0 → entries_of n lines ≡ []
   pub fresh : (n : ℕ) → client ≤ n → times_met n (map met_of players) ≡ 0
