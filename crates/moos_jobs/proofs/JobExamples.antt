@@ -28,7 +28,7 @@ use Rattle.command_line.specs.declared.status.Status.TheVariants.{Done, CheckNo,
 use Rattle.moos_jobs.specs.Jobs.Task.{Checking, Playing, Solving}
 use Rattle.command_line.specs.Turns.{Ready, Unfit, Wanted}
 use Rattle.moos_jobs.specs.Jobs.{IsAccepted, IsOutput, outcomes, turn_of}
-use Rattle.helm_files.specs.HelmFiles.{with_few_ticks}
+use Rattle.moos_jobs.specs.HelmFiles.{with_few_ticks}
 use Rattle.command_line.specs.Endings.{Ended, Sinking, sinking}
 use Rattle.moos_report.proofs.Communities.{all_entries}
 

@@ -10,16 +10,16 @@ use Rattle.moos_report.specs.declared.setup.Setup.{Setup}
 use Rattle.moos_report.specs.Report.{report_text, ReportsTell}
 use Rattle.command_line.specs.Turns.{Ready}
 use Rattle.moos_jobs.specs.Jobs.{IsLawfulWith, IsReport, report_on, outcomes}
-use Rattle.helm_files.proofs.Communities.{AreGoodFiles, stand_on_lines}
-use Rattle.helm_files.specs.declared.loading.HelmFiles.{HelmFiles}
-use Rattle.helm_files.specs.HelmFiles.{setup_of, helm_setup_by}
+use Rattle.moos_jobs.proofs.HelmCommunities.{AreGoodFiles, stand_on_lines}
+use Rattle.moos_jobs.specs.declared.helm_files.HelmFiles.{HelmFiles}
+use Rattle.moos_jobs.specs.HelmFiles.{setup_of, helm_setup_by}
 use Rattle.moos_jobs.specs.Jobs.Task.{Playing}
 use Rattle.command_line.specs.declared.status.Status.{Status}
 use Rattle.command_line.specs.Endings.{Ended, Sinking}
-use Rattle.moos_jobs.specs.Telling.{IsOfLawful}
-use Rattle.moos_telling.proofs.Endings.{ends_told}
-use Rattle.moos_telling.specs.Telling.{Tells}
-use Rattle.moos_jobs.proofs.Communities.{lawful_community}
+use Rattle.moos_jobs.specs.PlayTelling.{IsOfLawful}
+use Rattle.moos_jobs.proofs.TellingEndings.{ends_told}
+use Rattle.moos_jobs.specs.Telling.{Tells}
+use Rattle.moos_jobs.proofs.PlayedCommunities.{lawful_community}
 use Rattle.script_reader.specs.declared.script.Order.{Order}
 use Rattle.script_reader.specs.declared.script.Script.{Script}
 use Rattle.script_reader.specs.Validity.{IsValid}

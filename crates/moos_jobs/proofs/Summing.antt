@@ -13,12 +13,12 @@ use Rattle.moos_play.specs.Plays.{clients_in, helm_in, history_in, IsPlayedOut, 
 use Rattle.moos_post.specs.History.{History}
 use Rattle.moos_jobs.specs.Generating.{WasGenerated}
 use Rattle.moos_jobs.specs.Jobs.{IsLawfulWith, IsSummary, iterations_on}
-use Rattle.moos_jobs.proofs.Rounds.{IsAlone, run_as}
-use Rattle.helm_files.specs.declared.loading.HelmFiles.{HelmFiles}
-use Rattle.helm_files.specs.HelmFiles.{helm_setup_by}
-use Rattle.run_summary.specs.declared.counts.IterationCounts.{IterationCounts}
-use Rattle.run_summary.specs.SoleHistory.{RisingIsSole}
-use Rattle.run_summary.specs.Summary.{counts_of, counts_text, iterations_counted, summary_text}
+use Rattle.moos_jobs.proofs.PlayRounds.{IsAlone, run_as}
+use Rattle.moos_jobs.specs.declared.helm_files.HelmFiles.{HelmFiles}
+use Rattle.moos_jobs.specs.HelmFiles.{helm_setup_by}
+use Rattle.moos_jobs.specs.declared.counts.IterationCounts.{IterationCounts}
+use Rattle.moos_jobs.specs.SoleHistory.{RisingIsSole}
+use Rattle.moos_jobs.specs.Summary.{counts_of, counts_text, iterations_counted, summary_text}
 use Rattle.script_reader.specs.declared.script.Order.TheVariants.{Stamp}
 use Rattle.script_reader.specs.declared.script.Script.{Script}
 

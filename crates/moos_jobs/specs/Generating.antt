@@ -9,9 +9,9 @@ use Rattle.moos_play.specs.declared.run.HelmRun.{HelmRun}
 use Rattle.moos_play.specs.Lawful.{MayStart, names_with}
 use Rattle.moos_post.specs.History.{History}
 use Rattle.moos_jobs.specs.Jobs.{IsLawfulWith, iterations_on}
-use Rattle.helm_files.specs.declared.loading.HelmFiles.{HelmFiles}
-use Rattle.run_summary.specs.declared.counts.IterationCounts.{IterationCounts}
-use Rattle.run_summary.specs.Summary.{iterations_counted}
+use Rattle.moos_jobs.specs.declared.helm_files.HelmFiles.{HelmFiles}
+use Rattle.moos_jobs.specs.declared.counts.IterationCounts.{IterationCounts}
+use Rattle.moos_jobs.specs.Summary.{iterations_counted}
 use Rattle.script_reader.specs.declared.script.Order.TheVariants.{Stamp}
 
 -- the survey's helm before its first tick

@@ -1,9 +1,9 @@
 -- Which files a job reads, what is to be done with them, and what it may write.
 use Rattle.std.specs.Prelude.{◌≡◌, ℕ, List, [], ◌∷◌, codes, Option, Some, None, option_map, IfSome, Ok}
 use Rattle.ivp_cert.specs.Certificates.{best_decision}
-use Rattle.helm_files.specs.declared.loading.HelmFiles.{HelmFiles}
-use Rattle.helm_files.specs.HelmFiles.{setup_of, helm_setup_by}
-use Rattle.helm_files.specs.Loading.{helm_turn}
+use Rattle.moos_jobs.specs.declared.helm_files.HelmFiles.{HelmFiles}
+use Rattle.moos_jobs.specs.HelmFiles.{setup_of, helm_setup_by}
+use Rattle.moos_jobs.specs.Loading.{helm_turn}
 use Rattle.helm_core.specs.Plans.{plan_made}
 use Rattle.helm_core.specs.Worths.{DecidesByWorth}
 use Rattle.ivp_cert.specs.declared.claim.Decision.{Decision}
@@ -16,7 +16,7 @@ use Rattle.moos_post.specs.History.{History}
 use Rattle.moos_report.specs.Report.{report_text}
 use Rattle.mission_maker.specs.Generated.{generated_script}
 use Rattle.mission_maker.specs.Survey.{generated_behaviors, generated_mission}
-use Rattle.run_summary.specs.Summary.{summary_text}
+use Rattle.moos_jobs.specs.Summary.{summary_text}
 use Rattle.helm_core.specs.declared.iteration.Iteration.{Iteration}
 use Rattle.moos_play.specs.Lawful.{IsLawful, helm_number, heard_of, iterations, names_with}
 use Rattle.command_line.specs.Endings.{Outcomes}
@@ -30,8 +30,8 @@ use Rattle.command_line.specs.declared.status.Status.{Status}
 use Rattle.command_line.specs.declared.status.Status.TheVariants.{Done, CheckNo}
 use Rattle.script_reader.specs.declared.script.Script.{Script}
 use Rattle.script_reader.specs.Script.{script_of}
-use Rattle.share_job.specs.Sharing.{IsSharing, share_turn, ShareTask}
-use Rattle.simulate_job.specs.Simulating.{MayReport, simulate_turn, Simulation}
+use Rattle.moos_jobs.specs.Sharing.{IsSharing, share_turn, ShareTask}
+use Rattle.moos_jobs.specs.Simulating.{MayReport, simulate_turn, Simulation}
 
 -- what is to be done: a script is played in an order, with a helm or without; a problem is solved, a decision is checked; a
 -- mission is made from a number and summed up; two scripts are played with a bridge between their communities; a script is played beside a

@@ -1,4 +1,11 @@
+pub mod HelmFiles
+pub mod Loading
+pub mod Telling
+pub mod PlayTelling
+pub mod Summary
+pub mod SoleHistory
+pub mod Sharing
+pub mod Simulating
 pub mod Generating
 pub mod Jobs
 pub mod Run
-pub mod Telling

@@ -1,14 +1,34 @@
--- What may be written of a run. This serves `telling` alone.
-use Rattle.std.specs.Prelude.{◌≡◌, ℕ, List, Option}
-use Rattle.moos_play.specs.Lawful.{heard_of, helm_number, IsLawful, iterations, names_with, HelmSetup}
-use Rattle.moos_post.specs.History.{History}
+-- What is written of a play as it comes.
+use Rattle.std.specs.Prelude.{ℕ, ◌⊎◌, List, Option}
+use Rattle.moos_io.specs.Faults.{Fell}
+use Rattle.moos_io.specs.Pieces.{Took, TookFront}
+use Rattle.moos_play.specs.Plays.{clients_in, history_in, iterations_made, Playing}
 use Rattle.moos_report.specs.declared.setup.Setup.{Setup}
-use Rattle.moos_report.specs.Report.{report_text}
-use Rattle.script_reader.specs.declared.script.Order.{Order}
-use Rattle.script_reader.specs.declared.script.Script.{Script}
+use Rattle.moos_report.specs.Parts.{front_text}
+use Rattle.command_line.specs.declared.status.Status.{Status}
+use Rattle.command_line.specs.declared.status.Status.TheVariants.{Done, WriteFault, NoMemory}
+use Rattle.command_line.specs.Endings.{IsUntouched, Sinking}
 
--- the text is the report of a lawful history and of the helm's iterations in it
-pub record IsOfLawful (order : Order) (script : Script) (helm : Option HelmSetup) (setup : Setup) (text : List ℕ) : Type 0 where
-  pub history : History
-  pub lawful : IsLawful order script helm (names_with script helm) history
-  pub printed : text ≡ report_text setup (names_with script helm) history (iterations helm script.stop (heard_of (names_with script helm) (helm_number script) history))
+-- between two rounds: what is printed of the play so far was written
+abbrev pub IsToldSoFar : Setup → Option (List ℕ) → Option (List ℕ) → Playing → Type 0
+IsToldSoFar setup before after play = Took before after (front_text setup (clients_in play) (history_in play) (iterations_made play))
+
+-- the sink took one of these texts whole
+pub record ToldAll (MayBe : List ℕ → Type 0) (sink : Sinking) : Type 0 where
+  pub text : List ℕ
+  pub may : MayBe text
+  pub took : Took sink.taken_before sink.taken_after text
+
+-- the sink took a front of one of these texts, not the whole
+pub record ToldFront (MayBe : List ℕ → Type 0) (sink : Sinking) : Type 0 where
+  pub text : List ℕ
+  pub may : MayBe text
+  pub took : TookFront sink.taken_before sink.taken_after text
+
+-- how a play ends that is told as it comes, and whose report may be one of these texts: with the whole report, or with a front of one
+-- if the sink failed, or nothing or a front if no memory was left
+abbrev pub Tells : (List ℕ → Type 0) → Sinking → Status → Type 0
+Tells MayBe sink Done = ToldAll MayBe sink
+Tells MayBe sink WriteFault = ToldFront MayBe sink × Fell sink.fared_before sink.fared_after sink.taken_after
+Tells MayBe sink NoMemory = IsUntouched sink ⊎ ToldFront MayBe sink
+Tells MayBe sink status = ⊥

@@ -1,17 +1,20 @@
 // The job that makes a mission from a number, plays it, and sums it up.
 ghost use Rattle.std.specs.Prelude.{◌≡◌, ◌<◌, ℕ, false, IfOk, IsTrue, Ok, OnOk, true};
+ghost use Rattle.command_line.specs.Endings.{Ended, sinking};
+ghost use Rattle.command_line.specs.Turns.{Ready};
 ghost use Rattle.mission_maker.specs.Generated.{generated_script};
 ghost use Rattle.mission_maker.specs.Stamps.{rise_within};
 ghost use Rattle.moos_jobs.specs.Generating.{IsSurvey, WasGenerated};
 ghost use Rattle.moos_jobs.specs.Jobs.{outcomes};
-ghost use Rattle.command_line.specs.Turns.{Ready};
 ghost use Rattle.moos_jobs.specs.Jobs.Task.{Generating};
-ghost use Rattle.command_line.specs.Endings.{Ended, sinking};
+ghost use Rattle.moos_jobs.specs.Summary.{AreBoundedCounts, iterations_counted};
 ghost use Rattle.moos_play.specs.Lawful.{names_with, opening};
 ghost use Rattle.moos_play.specs.Plays.{clients_in, GoesOnWith, helm_in, history_in, IsBetween, IsPlayedOut, iterations_made, left_in, script_played};
-ghost use Rattle.run_summary.specs.Summary.{AreBoundedCounts, iterations_counted};
 ghost use Rattle.script_reader.specs.Validity.{IsValid};
 
+use crate::counts::IterationCounts;
+use crate::sole_history::sole_history_law;
+use crate::summary::summary;
 use command_line::{Status, written};
 use helm_core::Helm;
 use mission_maker::{make_behaviors, make_mission, make_script};
@@ -19,7 +22,6 @@ use moos_db::Db;
 use moos_io::{Gate, Sink};
 use moos_play::{HelmRun, Order, Play, Ran};
 use moos_post::{List, NoMemory};
-use run_summary::{IterationCounts, sole_history_law, summary};
 use script_reader::Script;
 use std::alloc::Global;
 use std::sync::Wait;

@@ -1,17 +1,17 @@
 // The job that plays a script, with the helm of a mission or without one: its files one after another, and its report.
 ghost use Rattle.std.specs.Prelude.{◌≡◌, ◌≤◌, ◌++◌, ℕ, [], List, None, Some};
+ghost use Rattle.command_line.specs.Endings.{EndsFrom, surroundings, Ended, sinking};
 ghost use Rattle.command_line.specs.Turns.{FileTurn, Ready};
+ghost use Rattle.command_line.specs.declared.job.Job.TheVariants.{Play};
 ghost use Rattle.moos_jobs.specs.Jobs.{Task, helm_played, outcomes, turn_of};
 ghost use Rattle.moos_jobs.specs.Jobs.Task.{Playing};
-ghost use Rattle.command_line.specs.Endings.{EndsFrom, surroundings, Ended, sinking};
-ghost use Rattle.command_line.specs.declared.job.Job.TheVariants.{Play};
-ghost use Rattle.helm_files.specs.Loading.{AreValidFiles, helm_turn};
+ghost use Rattle.moos_jobs.specs.Loading.{AreValidFiles, helm_turn};
 ghost use Rattle.script_reader.specs.Validity.{IsValid};
 
-use crate::telling::play_rounds;
+use crate::helm_files::{FittedHelm, HelmFiles, fit_helm, load_helm};
+use crate::play_telling::play_rounds;
 use command_line::{FileKind, Status, load, refused, unloaded};
 use helm_core::{plan_law, worth_law};
-use helm_files::{FittedHelm, HelmFiles, fit_helm, load_helm};
 use moos_io::{Folder, Gate, Sink};
 use moos_play::Order;
 use moos_post::Txt;

@@ -1,19 +1,19 @@
 // The top call: from a command line to what was written and how it ended.
 ghost use Rattle.std.specs.Prelude.{◌≡◌, ◌≤◌, ℕ, [], List};
-ghost use Rattle.command_line.specs.Jobs.{HasFewWorkers};
 ghost use Rattle.command_line.specs.Endings.{EndsFrom, Surroundings, sinking, surroundings};
+ghost use Rattle.command_line.specs.Jobs.{HasFewWorkers};
+ghost use Rattle.command_line.specs.declared.job.Job.TheVariants.{Check, Solve};
 ghost use Rattle.moos_jobs.specs.Jobs.{outcomes, turn_of};
 ghost use Rattle.moos_jobs.specs.Run.{Completes, Declines, EndsWith, Refuses, Succeeds};
-ghost use Rattle.command_line.specs.declared.job.Job.TheVariants.{Check, Solve};
 
 use crate::generate_job::generate;
 use crate::play_job::play_files;
+use crate::share_job::share_files;
+use crate::simulate_job::simulate;
 use command_line::{FileKind, Job, Status, Words, job_named, load, refused, unloaded, written};
 use ivp_cert::{accepts, decide, print_decision_by_workers, read_decision, read_problem};
 use moos_io::{Folder, Gate, Sink, put_all};
 use moos_post::Txt;
-use share_job::share_files;
-use simulate_job::simulate;
 use std::alloc::Global;
 use std::sync::Wait;
 use std::thread::Threads;

@@ -1,143 +1,117 @@
-// A run whose report is written as it comes: how it begins before the first round, and what each round brings before the next.
-ghost use Rattle.std.specs.Prelude.{◌≡◌, ◌+◌, ◌^◌, ◌<◌, ◌≤◌, [], length, option_map, IfErr, IfNone, IfOk, IfSome, OnOk, Option, List, ℕ};
-ghost use Rattle.moos_io.specs.Faults.{Faring, FaresOn};
-ghost use Rattle.moos_play.specs.Lawful.{MayStart, names_with, opening, helm_setup_with};
-ghost use Rattle.moos_play.specs.Plays.{clients_in, GoesOnWith, HasCompletion, helm_in, history_in, IsBetween, IsPlayedOut, iterations_made, left_in, order_played, script_played};
+// The parts of a report that is written while its play goes on.
+ghost use Rattle.std.specs.Prelude.{◌≡◌, [], drop, take, OnErr, OnOk};
+ghost use Rattle.moos_io.specs.Faults.{FaresOn, Fell};
+ghost use Rattle.moos_io.specs.Pieces.{Took, TookFront};
+ghost use Rattle.moos_play.specs.Plays.{clients_in, history_in, IsSeated};
+ghost use Rattle.moos_report.specs.IterationLines.{helm_fetches};
 ghost use Rattle.moos_report.specs.Lines.{KeepsLines};
-ghost use Rattle.command_line.specs.Endings.{sinking};
-ghost use Rattle.moos_jobs.specs.Telling.{IsOfLawful};
-ghost use Rattle.moos_telling.specs.Telling.{IsToldSoFar, Tells};
-ghost use Rattle.script_reader.specs.Validity.{IsValid};
+ghost use Rattle.moos_report.specs.Parts.{front_text};
+ghost use Rattle.moos_report.specs.Report.{end_text, entries_text};
 
-use command_line::{Status, written};
-use moos_io::{Buffer, Gate, Sink};
-use moos_play::{HelmRun, Order, Play};
-use moos_post::List;
-use moos_report::{KeptText, Setup, parts_law};
-use moos_telling::{tell_end, tell_opening, tell_part};
-use script_reader::Script;
-use std::alloc::Global;
+use moos_db::Db;
+use moos_io::{Buffer, Failed, Sink};
+use moos_play::{Play, Round};
+use moos_report::{KeptText, Setup, report_end, report_head, report_part_through};
 use std::sync::Wait;
-use std::thread::Threads;
 
-/// Plays the script round by round, with this helm or without one, and writes the report of each round before the next one
-/// begins.
-pub fn play_rounds<R: Threads + Wait + Sync, K: Sink, G: Gate>(
+/// Tells how a play begins: its clients, and the entries so far, among which no iteration ends. What is printed again is kept if
+/// there is memory.
+pub fn tell_opening<R: Wait, K: Sink>(
     rt: &R,
-    alloc: Global,
-    script: &Script,
-    helm: Option<HelmRun>,
-    setup: &Setup,
-    order: Order,
-    workers: u32,
-    out: &mut K,
-    gate: &G,
-) -> Status
-    requires valid { IsValid script.now }
-    requires helm { IfSome helm MayStart }
-    requires few { (1 ≤ workers) × (workers ≤ 16) }
-    ensures { Tells (IsOfLawful order script.now (option_map (helm_setup_with script.now) helm) setup.now)
-        (sinking (K.taken out.old) (K.taken out.new) (K.faults out.old) (K.faults out.new)) result }
-{
-    match Play::make(rt, alloc, script, helm, List::new(alloc), order, gate) {
-        Ok(mut play) => tell(rt, alloc, &mut play, setup, workers, out, gate),
-        Err(_) => Status::NoMemory,
-    }
-}
-
-// Tells a run from its opening to its end.
-fn tell<R: Threads + Wait + Sync, K: Sink, G: Gate>(
-    rt: &R,
-    alloc: Global,
     play: &mut Play,
     setup: &Setup,
-    workers: u32,
+    kept: &mut KeptText,
     out: &mut K,
-    gate: &G,
-) -> Status
-    requires between { IsBetween play.old }
-    requires named { clients_in play.old ≡ names_with (script_played play.old) (helm_in play.old) }
-    requires begun { history_in play.old ≡ opening (helm_in play.old) }
-    requires few { (1 ≤ workers) × (workers ≤ 16) }
-    ensures { Tells (IsOfLawful (order_played play.old) (script_played play.old) (helm_in play.old) setup.now)
-        (sinking (K.taken out.old) (K.taken out.new) (K.faults out.old) (K.faults out.new)) result }
+) -> Result<(), Failed>
+    requires seated { IsSeated play.old }
+    requires kept { KeepsLines (clients_in play.old) (history_in play.old) kept.old }
+    ensures kept { KeepsLines (clients_in play.old) (history_in play.old) kept.new }
+    ensures same { play.new ≡ play.old }
+    ensures ok { OnOk result (Took (K.taken out.old) (K.taken out.new) (front_text setup.now (clients_in play.old) (history_in play.old) [])) }
+    ensures front { OnErr result (TookFront (K.taken out.old) (K.taken out.new) (front_text setup.now (clients_in play.old) (history_in play.old) [])) }
+    ensures later { FaresOn (K.faults out.old) (K.faults out.new) }
+    ensures rose { OnErr result (Fell (K.faults out.old) (K.faults out.new) (K.taken out.new)) }
 {
-    play.front_law();
-    parts_law();
-    let mut kept = KeptText::new(alloc);
-    if let Err(_) = tell_opening(rt, play, setup, &mut kept, out) {
-        return Status::WriteFault;
+    let held = play.hold(rt);
+    let told = report_front(setup, held.value(), kept, out);
+    play.put_back(held);
+    told
+}
+
+// Writes how the report of the database begins, and its entries so far, among which there is no iteration.
+fn report_front<K: Sink>(
+    setup: &Setup,
+    db: &Db,
+    kept: &mut KeptText,
+    out: &mut K,
+) -> Result<(), Failed>
+    requires { KeepsLines db.now.names db.now.history kept.old }
+    ensures kept { KeepsLines db.now.names db.now.history kept.new }
+    ensures ok { OnOk result (Took (K.taken out.old) (K.taken out.new) (front_text setup.now db.now.names db.now.history [])) }
+    ensures front { OnErr result (TookFront (K.taken out.old) (K.taken out.new) (front_text setup.now db.now.names db.now.history [])) }
+    ensures later { FaresOn (K.faults out.old) (K.faults out.new) }
+    ensures rose { OnErr result (Fell (K.faults out.old) (K.faults out.new) (K.taken out.new)) }
+{
+    if let Err(failed) = report_head(setup, db, out) {
+        return Err(failed);
     }
     let mut buffer = Buffer::new();
-    let mut made = 0;
-    loop {
-        match tell_round(
-            rt,
-            alloc,
-            play,
-            setup,
-            made,
-            workers,
-            &mut kept,
-            &mut buffer,
-            out,
-            gate,
-        ) {
-            Ok(Some(more)) => made += more,
-            Ok(None) => return written(Status::Done, tell_end(rt, play, out)),
-            Err(status) => return status,
-        }
-    }
+    report_part_through(setup, db, 0, 0, &[], kept, &mut buffer, out)
 }
 
-// Plays the next round and tells it, after `made` iterations of the helm, and answers how many it made in it.
-// None if no round is left. The buffer is empty before and after, and the lines that are kept are of the play's posts.
-fn tell_round<R: Threads + Wait + Sync, K: Sink, G: Gate>(
+/// Tells what a round brought, after `made` iterations of the helm, through an empty buffer: the entries from the
+/// round's first one on, and its iterations behind those that end them. What is printed again is kept if there is memory.
+pub fn tell_part<R: Wait, K: Sink>(
     rt: &R,
-    alloc: Global,
     play: &mut Play,
     setup: &Setup,
+    round: &Round,
     made: u64,
-    workers: u32,
     kept: &mut KeptText,
     buffer: &mut Buffer,
     out: &mut K,
-    gate: &G,
-) -> Result<Option<u64>, Status>
+) -> Result<(), Failed>
     requires empty { buffer.old ≡ [] }
+    requires seated { IsSeated play.old }
+    requires fetched { helm_fetches (clients_in play.old) (take round.now.from (history_in play.old)) ≡ made }
     requires kept { KeepsLines (clients_in play.old) (history_in play.old) kept.old }
-    requires between { IsBetween play.old }
-    requires named { clients_in play.old ≡ names_with (script_played play.old) (helm_in play.old) }
-    requires made { made ≡ length (iterations_made play.old) }
-    requires few { (1 ≤ workers) × (workers ≤ 16) }
     ensures empty { OnOk result (buffer.new ≡ []) }
-    ensures kept { OnOk result (KeepsLines (clients_in play.new) (history_in play.new) kept.new) }
-    ensures between { OnOk result (IsBetween play.new) }
-    ensures same { OnOk result (GoesOnWith play.old play.new) }
+    ensures kept { KeepsLines (clients_in play.old) (history_in play.old) kept.new }
+    ensures same { play.new ≡ play.old }
+    ensures ok { OnOk result (Took (K.taken out.old) (K.taken out.new)
+        (entries_text setup.now made round.now.iterations (clients_in play.old) (take round.now.from (history_in play.old)) (drop round.now.from (history_in play.old)))) }
+    ensures front { OnErr result (TookFront (K.taken out.old) (K.taken out.new)
+        (entries_text setup.now made round.now.iterations (clients_in play.old) (take round.now.from (history_in play.old)) (drop round.now.from (history_in play.old)))) }
     ensures later { FaresOn (K.faults out.old) (K.faults out.new) }
-    ensures made { IfOk result (λ more. IfSome more (λ more. length (iterations_made play.new) ≡ made + more)) }
-    ensures few { IfOk result (λ more. IfSome more (λ more. made + more < 2 ^ 64)) }
-    ensures less { IfOk result (λ more. IfSome more (λ _. left_in play.new < left_in play.old)) }
-    ensures on { IfOk result (λ more. IfSome more (λ _. HasCompletion play.new)) }
-    // Whatever was told before.
-    ensures told { IfOk result (λ more. IfSome more (λ _. (before : Option (List ℕ))
-        → IsToldSoFar setup.now before (K.taken out.old) play.old → IsToldSoFar setup.now before (K.taken out.new) play.new)) }
-    ensures over { IfOk result (λ more. IfNone more (IsPlayedOut play.new × (play.new ≡ play.old) × (K.taken out.new ≡ K.taken out.old))) }
-    ensures stopped { IfErr result (λ status. (before : Option (List ℕ)) (faults : Faring) → FaresOn faults (K.faults out.old) → HasCompletion play.old
-        → IsToldSoFar setup.now before (K.taken out.old) play.old
-        → Tells (IsOfLawful (order_played play.old) (script_played play.old) (helm_in play.old) setup.now) (sinking before (K.taken out.new) faults (K.faults out.new)) status) }
+    ensures rose { OnErr result (Fell (K.faults out.old) (K.faults out.new) (K.taken out.new)) }
 {
-    parts_law();
-    play.front_law();
-    let Ok(next) = play.round(rt, alloc, workers, gate) else {
-        return Err(Status::NoMemory);
-    };
-    let Some(round) = next else {
-        return Ok(None);
-    };
-    play.front_law();
-    if let Err(_) = tell_part(rt, play, setup, &round, made, kept, buffer, out) {
-        return Err(Status::WriteFault);
-    }
-    Ok(Some(round.iterations.len() as u64))
+    let held = play.hold(rt);
+    let iterations = round.iterations.all();
+    let told = report_part_through(
+        setup,
+        held.value(),
+        round.from,
+        made,
+        iterations,
+        kept,
+        buffer,
+        out,
+    );
+    play.put_back(held);
+    told
+}
+
+/// Tells how a play ends.
+pub fn tell_end<R: Wait, K: Sink>(rt: &R, play: &mut Play, out: &mut K) -> Result<(), Failed>
+    requires { IsSeated play.old }
+    ensures same { play.new ≡ play.old }
+    ensures ok { OnOk result (Took (K.taken out.old) (K.taken out.new) (end_text (history_in play.old))) }
+    ensures front { OnErr result (TookFront (K.taken out.old) (K.taken out.new) (end_text (history_in play.old))) }
+    ensures later { FaresOn (K.faults out.old) (K.faults out.new) }
+    ensures rose { OnErr result (Fell (K.faults out.old) (K.faults out.new) (K.taken out.new)) }
+{
+    let held = play.hold(rt);
+    let told = report_end(held.value(), out);
+    play.put_back(held);
+    told
 }

@@ -2,9 +2,9 @@
 use Rattle.std.proofs.Common.{◌≡◌, ◌∙◌, ◌<◌, ◌++◌, ap, arith, length, length-append, subst, sym}
 use Rattle.std.specs.Prelude.{IfNone, IfSome}
 use Rattle.moos_play.specs.Plays.{IsPlayedOut, IsRound, iterations_made, left_in, Playing}
-use Rattle.moos_telling.proofs.Rounds.{few_made}
-use Rattle.run_summary.specs.declared.counts.IterationCounts.{IterationCounts}
-use Rattle.run_summary.specs.Summary.{iterations_counted}
+use Rattle.moos_jobs.proofs.Rounds.{few_made}
+use Rattle.moos_jobs.specs.declared.counts.IterationCounts.{IterationCounts}
+use Rattle.moos_jobs.specs.Summary.{iterations_counted}
 use Rattle.moos_jobs.proofs.generate_job.count_round.Goals as goal
 
 pub add-requires-clause-few : goal.add-requires-clause-few

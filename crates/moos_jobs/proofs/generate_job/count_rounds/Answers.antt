@@ -1,8 +1,8 @@
 -- The run is played out, round by round.
 use Rattle.std.proofs.Common.{◌∙◌, Ok, ap, refl, sym}
-use Rattle.moos_jobs.proofs.Rounds.{none_made}
-use Rattle.moos_telling.proofs.Rounds.{goes_on_twice}
-use Rattle.run_summary.specs.Summary.{iterations_counted}
+use Rattle.moos_jobs.proofs.PlayRounds.{none_made}
+use Rattle.moos_jobs.proofs.Rounds.{goes_on_twice}
+use Rattle.moos_jobs.specs.Summary.{iterations_counted}
 use Rattle.moos_jobs.proofs.generate_job.count_rounds.Goals as goal
 
 pub loop-init : goal.loop-init

@@ -1,7 +1,7 @@
 -- The run goes on from where it began, and what is counted is of its iterations so far.
 use Rattle.std.proofs.Common.{◌≡◌}
 use Rattle.moos_play.specs.Plays.{GoesOnWith, IsBetween, iterations_made, left_in}
-use Rattle.run_summary.specs.Summary.{AreBoundedCounts, iterations_counted}
+use Rattle.moos_jobs.specs.Summary.{AreBoundedCounts, iterations_counted}
 use Rattle.moos_jobs.proofs.generate_job.count_rounds.Given as goal
 
 abbrev pub invariant-loop : goal.invariant-loop

@@ -1,7 +1,7 @@
 -- What was told of the run is what its job may write.
 use Rattle.std.proofs.Common.{ap}
 use Rattle.std.specs.Prelude.{Some}
-use Rattle.helm_files.proofs.Communities.{good_files}
+use Rattle.moos_jobs.proofs.HelmCommunities.{good_files}
 use Rattle.moos_play.specs.Lawful.{helm_setup_with}
 use Rattle.moos_jobs.proofs.Playing.{told_ended}
 use Rattle.moos_jobs.proofs.play_job.play_helm.Goals as goal

@@ -1,7 +1,7 @@
 -- The files of the helm are loaded behind the script, and then all is played, or they are refused.
 use Rattle.std.proofs.Common.{refl}
 use Rattle.command_line.specs.Endings.{surroundings}
-use Rattle.helm_files.proofs.FilesFirst.{ends_behind, ends_so}
+use Rattle.moos_jobs.proofs.FilesFirst.{ends_behind, ends_so}
 use Rattle.moos_jobs.specs.Jobs.{helm_played, outcomes}
 use Rattle.moos_jobs.proofs.play_job.play_mission.Goals as goal
 

@@ -5,8 +5,8 @@ use Rattle.command_line.specs.declared.job.Job.{Job}
 use Rattle.command_line.specs.Endings.{EndsFrom, sinking, surroundings}
 use Rattle.moos_jobs.specs.Jobs.{outcomes, turn_of}
 use Rattle.moos_jobs.specs.Jobs.Task.{Sharing, Simulating}
-use Rattle.share_job.specs.Sharing.{share_outcomes, share_turn}
-use Rattle.simulate_job.specs.Simulating.{simulate_outcomes, simulate_turn}
+use Rattle.moos_jobs.specs.Sharing.{share_outcomes, share_turn}
+use Rattle.moos_jobs.specs.Simulating.{simulate_outcomes, simulate_turn}
 use Rattle.moos_jobs.proofs.running.do_job.Goals as goal
 
 pub returns-in-Share-clause-ends : goal.returns-in-Share-clause-ends

@@ -1,2 +1,0 @@
-pub mod Communities
-pub mod FilesFirst

@@ -1,2 +1,0 @@
-pub mod HelmFiles
-pub mod Loading

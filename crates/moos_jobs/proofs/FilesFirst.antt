@@ -1,0 +1,117 @@
+-- A job that needs a helm's files first: it ends as their loading does, or goes on behind them.
+use Rattle.std.proofs.Common.{◌≡◌, ℕ, List, [], ◌∷◌, ◌++◌, inl, inr, refl, ap, sym, ◌∙◌, subst, arith, append_assoc, append-nil}
+use Rattle.std.specs.Prelude.{Err, Ok, Option, Result}
+use Rattle.command_line.proofs.Loading.{ends_here, IsBehind, went_on}
+use Rattle.command_line.specs.declared.status.FileKind.{FileKind}
+use Rattle.command_line.specs.declared.status.FileKind.TheVariants.{Behaviors as BehaviorsFile, Mission as MissionFile}
+use Rattle.command_line.specs.declared.status.Status.{Status}
+use Rattle.command_line.specs.declared.status.Status.TheVariants.{Done, CheckNo, Usage, LoadFault, WriteFault, Refused, NoMemory}
+use Rattle.command_line.specs.Endings.{DidFrom, Ended, EndsFrom, Outcomes, Sinking, Surroundings}
+use Rattle.command_line.specs.Turns.{AreLoaded, FileTurn, Ready, turn_behind, Unfit, Wanted, WasWanted}
+use Rattle.moos_jobs.specs.declared.helm_files.HelmFiles.{HelmFiles}
+use Rattle.moos_jobs.specs.HelmFiles.{with_few_ticks}
+use Rattle.moos_jobs.specs.Loading.{behaviors_turn, helm_alone, helm_turn, nothing_written, WereLoaded}
+use Rattle.bhv_reader.specs.Behaviors.{behaviors_of}
+use Rattle.mission_reader.specs.declared.mission.Mission.{Mission}
+use Rattle.mission_reader.specs.Missions.{mission_of}
+use Rattle.moos_text.specs.declared.cause.ReadFault.{ReadFault}
+use Rattle.moos_text.specs.Refusals.{and_then}
+use Rattle.script_reader.specs.declared.script.Script.{Script}
+
+-- where a job stands by where a part of it stands, and by what follows that
+abbrev followed : {A T : Type 0} → (A → FileTurn T) → FileTurn A → FileTurn T
+followed next (Wanted kind name) = Wanted kind name
+followed next (Ready value) = next value
+followed next (Unfit kind fault) = Unfit kind fault
+
+behind_followed : {A B T : Type 0} (next : B → FileTurn T) (kind : FileKind) (own : A → FileTurn B) (read : Result A ReadFault) → turn_behind kind (λ value. followed next (own value)) read ≡ followed next (turn_behind kind own read)
+behind_followed next kind own (Ok value) = refl
+behind_followed next kind own (Err fault) = refl
+
+was_followed : {A T : Type 0} (told : Option (List ℕ → Option (List ℕ))) (next : A → FileTurn T) (turn : FileTurn A) (bytes : List ℕ) → WasWanted told turn bytes → WasWanted told (followed next turn) bytes
+was_followed told next (Wanted kind name) bytes was = was
+was_followed told next (Ready value) bytes was = absurd was
+was_followed told next (Unfit kind fault) bytes was = absurd was
+
+-- what is behind the first file
+abbrev behind : List (List ℕ) → List (List ℕ)
+behind [] = []
+behind (bytes ∷ more) = more
+
+module _ {T : Type 0} (next : HelmFiles → List (List ℕ) → FileTurn T) where
+  behaviors_followed : (mission : Mission) (files : List (List ℕ)) → behaviors_turn next mission files ≡ followed (λ helm. next helm (behind files)) (behaviors_turn helm_alone mission files)
+  behaviors_followed mission [] = refl
+  behaviors_followed mission (bytes ∷ more) = behind_followed (λ helm. next helm more) BehaviorsFile (λ file. Ready (record { mission = mission; file = file })) (behaviors_of mission.domain bytes)
+
+  helm_followed : (script : Script) (name : List ℕ) (files : List (List ℕ)) → helm_turn next script name files ≡ followed (λ helm. next helm (behind (behind files))) (helm_turn helm_alone script name files)
+  helm_followed script name [] = refl
+  helm_followed script name (bytes ∷ more) =
+      (λ i. turn_behind MissionFile (λ mission. behaviors_followed mission more i) (and_then (with_few_ticks script) (mission_of bytes)))
+      ∙ behind_followed (λ helm. next helm (behind more)) MissionFile (λ mission. behaviors_turn helm_alone mission more) (and_then (with_few_ticks script) (mission_of bytes))
+
+module _ {T : Type 0} (outcomes : Outcomes T) (next : HelmFiles → List (List ℕ) → FileTurn T) (script : Script) (name : List ℕ) (turn : List (List ℕ) → FileTurn T) (front : List (List ℕ))
+    (turns : (files : List (List ℕ)) → turn (front ++ files) ≡ helm_turn next script name files) where
+  stands : (files : List (List ℕ)) → turn (front ++ files) ≡ followed (λ helm. next helm (behind (behind files))) (helm_turn helm_alone script name files)
+  stands files = turns files ∙ helm_followed next script name files
+
+  loaded_before : (told : Option (List ℕ → Option (List ℕ))) (first files : List (List ℕ)) → AreLoaded told (helm_turn helm_alone script name) first files → AreLoaded told turn (front ++ first) files
+  loaded_before told first [] loaded = tt
+  loaded_before told first (bytes ∷ files) loaded = (
+    subst (λ turn. WasWanted told turn bytes) (sym (stands first)) (was_followed told (λ helm. next helm (behind (behind first))) (helm_turn helm_alone script name first) bytes loaded.0),
+    subst (λ done. AreLoaded told turn done files) (sym (append_assoc front first (bytes ∷ []))) (loaded_before told (first ++ bytes ∷ []) files loaded.1),
+  )
+
+  loaded_first : (told : Option (List ℕ → Option (List ℕ))) (files : List (List ℕ)) → AreLoaded told (helm_turn helm_alone script name) [] files → AreLoaded told turn front files
+  loaded_first told files loaded = subst (λ done. AreLoaded told turn done files) (append-nil front) (loaded_before told [] files loaded)
+
+  ended_so : (files : List (List ℕ)) (sink : Sinking) (status : Status) → Ended nothing_written (helm_turn helm_alone script name files) sink status → Ended outcomes (turn (front ++ files)) sink status
+  ended_so files sink Done ended = absurd ended.output
+  ended_so files sink CheckNo ended = absurd ended.output
+  ended_so files sink Usage ended = absurd ended
+  ended_so files sink LoadFault ended = absurd ended
+  ended_so files sink WriteFault ended = absurd ended.0.output
+  ended_so files sink (Refused refusal) ended = (stands files ∙ ap (followed (λ helm. next helm (behind (behind files)))) ended.0, ended.1)
+  ended_so files sink NoMemory (inl untouched) = inl untouched
+  ended_so files sink NoMemory (inr front) = absurd front.0.output
+
+  did_so : (run : Surroundings) (status : Status) → DidFrom nothing_written run (helm_turn helm_alone script name) [] status → DidFrom outcomes run turn front status
+  did_so run status did = record { files = did.files; loaded = loaded_first run.told did.files did.loaded; ended = ended_so did.files run.sink status did.ended }
+
+  -- the job ends as the loading does
+  pub ends_so : (run : Surroundings) (status : Status) → EndsFrom nothing_written run (helm_turn helm_alone script name) [] status → EndsFrom outcomes run turn front status
+  ends_so run LoadFault ends = record {
+    rose = ends.rose;
+    files = ends.files;
+    loaded = loaded_first run.told ends.files ends.loaded;
+    kind = ends.kind;
+    name = ends.name;
+    wanted = stands ends.files ∙ ap (followed (λ helm. next helm (behind (behind ends.files)))) ends.wanted;
+    unsure = ends.unsure;
+    silent = ends.silent;
+  }
+  ends_so run status ends = did_so run status ends
+
+  -- the job goes on behind both files
+  module _ (run later : Surroundings) (is : IsBehind run later) (files : HelmFiles) (were : WereLoaded run.told script name files) where
+    abbrev pub both : List (List ℕ)
+    both = (front ++ were.mission ∷ []) ++ were.behaviors ∷ []
+
+    read_so : (more : List (List ℕ)) → helm_turn next script name (were.mission ∷ more) ≡ behaviors_turn next files.mission more
+    read_so more = ap (turn_behind MissionFile (λ mission. behaviors_turn next mission more)) were.mission_read
+
+    pub stands_behind : (more : List (List ℕ)) → turn (both ++ more) ≡ next files more
+    stands_behind more =
+        ap turn (append_assoc (front ++ were.mission ∷ []) (were.behaviors ∷ []) more ∙ append_assoc front (were.mission ∷ []) (were.behaviors ∷ more)) ∙ turns (were.mission ∷ were.behaviors ∷ more)
+        ∙ read_so (were.behaviors ∷ more) ∙ ap (turn_behind BehaviorsFile (λ file. next (record { mission = files.mission; file = file }) more)) were.behaviors_read
+
+    pub goes_on : (status : Status) → EndsFrom outcomes later turn both status → EndsFrom outcomes run turn front status
+    goes_on status ends =
+        went_on outcomes run run (record { told = refl; sure = refl; sink = refl; before = omega arith; after = refl }) turn front MissionFile name name were.mission
+        (ap turn (sym (append-nil front)) ∙ turns []) refl were.mission_told status
+        (went_on outcomes run later is turn (front ++ were.mission ∷ []) BehaviorsFile files.mission.behaviors files.mission.behaviors were.behaviors (turns (were.mission ∷ []) ∙ read_so []) refl were.behaviors_told status ends)
+
+    -- and ends there, where nothing else is wanted
+    pub ends_behind : (status : Status) → Ended outcomes (next files []) later.sink status → EndsFrom outcomes run turn front status
+    ends_behind status ended =
+        goes_on status
+        (ends_here outcomes later turn both status (subst (λ turn. Ended outcomes turn later.sink status) (sym (ap turn (sym (append-nil both)) ∙ stands_behind [])) ended))

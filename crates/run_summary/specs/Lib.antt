@@ -1,2 +1,0 @@
-pub mod SoleHistory
-pub mod Summary
