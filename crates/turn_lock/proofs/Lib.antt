@@ -7,4 +7,5 @@ pub mod Turns
 pub mod Advancing
 pub mod Splitting
 pub mod Meeting
+pub mod Seeing
 pub mod Closing

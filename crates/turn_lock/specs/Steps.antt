@@ -71,6 +71,11 @@ abbrev pub Settles : {E B S : Type 0} → Step S → Me S (Known E B) → ℕ �
 Settles step me found after =
     (after ≡ (record me.0 { seen = longer me.0.seen me.0.told }, me.1)) × Begins (longer me.0.seen me.0.told) me.0.seen × Begins (longer me.0.seen me.0.told) me.0.told
 
+-- a pass has seen a history that begins with what it had seen before, and has of each number just what the pass knows
+abbrev pub Sees : {E B S : Type 0} → (E → ℕ) → Step S → Me S (Known E B) → ℕ → Me S (Known E B) → Type 0
+Sees {E} number step me found after =
+    (log : List E) × (after ≡ (record me.0 { seen = log }, me.1)) × Begins log me.0.seen × ((n : ℕ) → own number n log ≡ known_in me.0 n)
+
 -- a pass of this number and these events, which has seen as much as another
 abbrev pub apart : {E B : Type 0} → Known E B → ℕ → List E → Known E B
 apart v number mine =

@@ -95,6 +95,19 @@ impl<S: Journaled> TurnLock<S> {
         lock_table::meet(&self.table.shared, &mut pass.seat, seat);
     }
 
+    /// Has the first pass, which has taken in all others, see the whole history, which is just what the passes have added. It
+    /// needs no turn, since nobody else can have one.
+    pub fn see_all(&self, pass: &mut Pass<S>)
+        requires lock { IsOf self.now pass.old }
+        requires free { IsFree pass.old }
+        requires all { HasAll pass.old }
+        ensures seen { Begins pass.new.seen pass.old.seen }
+        ensures whole { KnowsAll S.number pass.old pass.new.seen }
+        ensures pass { pass.new ≡ record pass.old { seen = pass.new.seen } }
+    {
+        lock_table::see_all(&self.table.shared, &mut pass.seat);
+    }
+
     /// Parts the pass of a number again from the first pass, which has taken it in. It has seen as much as the first.
     pub fn part(&self, pass: &mut Pass<S>, number: u32) -> Pass<S>
         requires lock { IsOf self.now pass.old }
@@ -140,7 +153,7 @@ impl<S: Journaled> TurnLock<S> {
         )
     }
 
-    /// Lends the value to the pass, in its turn: it waits until all who asked before have given the value back. The
+    /// Lends the value to the pass, in its turn: it waits until all who drew a ticket before have given the value back. The
     /// history then begins with all that the pass has seen, and has of its number just the pass's own events; and if
     /// the first pass has taken in all others, it is just what the passes have added.
     pub fn take<R: Wait>(&self, rt: &R, pass: &mut Pass<S>) -> Held<S>
@@ -154,6 +167,7 @@ impl<S: Journaled> TurnLock<S> {
         ensures pass { pass.new ≡ record pass.old { turn = Some (S.history result.value) } }
     {
         let table = &self.table.shared;
+        lock_table::stand_by(rt, table, &self.bells);
         let ticket = lock_table::draw(table, &mut pass.seat);
         let value = lock_table::take(rt, table, &self.bells, &mut pass.seat, ticket);
         let start = Snapshot::of(&value);

@@ -9,7 +9,9 @@ ghost use Rattle.turn_lock.specs.Steps.{advanced, closed, split_off, IsLent, too
 
 use crate::bells::Bells;
 use crate::journal::Journaled;
-use crate::rule::{Advance, Draw, Leave, Meet, PartOff, Picked, Poll, Ruling, Settle, SplitOff};
+use crate::rule::{
+    Advance, Draw, Leave, Meet, PartOff, Picked, Poll, Ruling, SeeAll, Settle, SplitOff,
+};
 use crate::view::Known;
 use atomic_table::{Seat, Shared, Table};
 use std::alloc::Global;
@@ -48,6 +50,31 @@ const TURN: usize = 1;
 
 /// The slot of the value.
 const VALUE: usize = 0;
+
+/// Whether no ticket was out at the second look. The turn is looked at first: it is never above the next ticket, so if both
+/// looks give one number, that is the turn at the second look too.
+fn is_free<S: Journaled>(table: &SharedTable<S>) -> bool
+    requires { table.now.table_id.words ≡ 2 }
+{
+    table.peek(TURN) == table.peek(TICKET)
+}
+
+/// Waits until no ticket is out. Another pass may then draw before this one does. Who has slept has asked for the common
+/// bell once more before the look with which it goes on, and so rings it for the next sleeper when its turn ends.
+pub(crate) fn stand_by<S: Journaled, R: Wait>(rt: &R, table: &SharedTable<S>, bells: &Bells)
+    requires { table.now.table_id.words ≡ 2 }
+{
+    if is_free(table) {
+        return;
+    }
+    for _ in rt.forever() {
+        let heard = bells.ask();
+        if is_free(table) {
+            return;
+        }
+        bells.sleep_without(rt, heard);
+    }
+}
 
 /// Draws the next ticket.
 pub(crate) fn draw<S: Journaled>(table: &SharedTable<S>, seat: &mut TableSeat<S>) -> u64
@@ -108,8 +135,8 @@ pub(crate) fn take<S: Journaled, R: Wait>(
     unreachable!()
 }
 
-/// Puts the value back, and gives the turn to the next ticket. If that one is out its bell rings. Whoever draws it
-/// later finds the turn there.
+/// Puts the value back, and gives the turn to the next ticket. If that one is out its bell rings, and else the common bell if
+/// it was asked for. Whoever draws the ticket later finds the turn there.
 pub(crate) fn put_back<S: Journaled>(
     table: &SharedTable<S>,
     bells: &Bells,
@@ -128,6 +155,8 @@ pub(crate) fn put_back<S: Journaled>(
     let next = turn.wrapping_add(1);
     if table.peek(TICKET) != next {
         bells.ring(next);
+    } else {
+        bells.ring_common();
     }
 }
 
@@ -189,6 +218,17 @@ pub(crate) fn meet<S: Journaled>(
 {
     table.join_seat::<Meet>(seat, other);
     table.load::<Settle>(seat, TURN);
+}
+
+/// Has the seat of the first pass, which has taken in all others, see the whole history. It is one look at the turn.
+pub(crate) fn see_all<S: Journaled>(table: &SharedTable<S>, seat: &mut TableSeat<S>)
+    requires table { (seat.old.table_id ≡ table.now.table_id) × (table.now.table_id.words ≡ 2) }
+    requires free { (seat.old.me.0.live ≡ true) × (seat.old.me.0.turn ≡ Idle) × (seat.old.me.1 ≡ []) }
+    requires all { (seat.old.me.0.number ≡ 0) × (length seat.old.me.0.met ≡ seat.old.me.0.made) }
+    ensures table { (seat.new.table_id ≡ seat.old.table_id) × (seat.new.id ≡ seat.old.id) }
+    ensures sees { (log : List S.Event) × (seat.new.me ≡ (record seat.old.me.0 { seen = log }, [])) × Begins log seat.old.me.0.seen × ((n : ℕ) → own S.number n log ≡ known_in seat.old.me.0 n) }
+{
+    table.load::<SeeAll>(seat, TURN);
 }
 
 /// The seat that stays when a lock is closed.

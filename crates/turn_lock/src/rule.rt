@@ -52,6 +52,15 @@ impl<S: Journaled> Play<Option<S>, Known<S::Event, S::Base>> for Settle {
     ghost then = { Settles };
 }
 
+/// The first pass, which has taken in all others, sees the whole history.
+pub(crate) struct SeeAll;
+
+impl<S: Journaled> Play<Option<S>, Known<S::Event, S::Base>> for SeeAll {
+    ghost use Rattle.turn_lock.specs.Steps.{Sees};
+
+    ghost then = { Sees S.number };
+}
+
 /// A new pass is split off the first one.
 pub(crate) struct SplitOff;
 
