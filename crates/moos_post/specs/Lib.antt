@@ -1,3 +1,4 @@
+pub mod Batches
 pub mod Delivery
 pub mod Entries
 pub mod History

@@ -1,6 +1,7 @@
 // The calls of a client, and an entry of the history.
+use crate::Regs;
+use crate::batch::Batch;
 use crate::pattern::Pattern;
-use crate::{Batch, Regs};
 
 /// What a client asks of the database.
 #[derive(Debug, Drop)]

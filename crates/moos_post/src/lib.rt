@@ -2,10 +2,11 @@
 //! database's history, each seen by contracts as its bytes or its number, and each list as a list. The delivery rule
 //! itself is in specs/: which posts are mailed to which client under any history.
 //!
-//! Read `copied` and `list` first, one list for all, then `milli`, `name`, `txt` and `pattern`, then `value` and
+//! Read `copied` and `list` first, one list for all, then `milli`, `name`, `txt` and `pattern`, then `value`, `batch` and
 //! `registration`, and `entry` last. Of specs/ read `Words`, `Patterns`, `History`, `Delivery`.
 #![tactic(auto)]
 
+mod batch;
 mod copied;
 mod entry;
 mod list;
@@ -16,6 +17,7 @@ mod registration;
 mod txt;
 mod value;
 
+pub use batch::Batch;
 pub use copied::Copied;
 pub use entry::{Call, Entry};
 pub use list::List;
@@ -32,7 +34,5 @@ pub type NoMemory = AllocError;
 
 /// Names, in order.
 pub type Names = List<Name>;
-/// The pairs that one call posts together, in order.
-pub type Batch = List<Pair>;
 /// The registrations that one call makes together, in order.
 pub type Regs = List<Reg>;

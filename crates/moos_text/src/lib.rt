@@ -23,7 +23,9 @@ pub use end::{ends_with, without_last};
 pub use line::{Line, Said, next_line, next_said, next_whole_line};
 pub use milli_text::{MilliText, print_decimals, print_milli, print_unsigned};
 pub use number::{read_milli, read_unsigned, read_whole};
-pub use pair::{PairFault, cut_at_equals, read_pair, read_plain, read_text};
+pub use pair::{
+    PairFault, PairSides, cut_at_equals, pair_sides, read_pair, read_plain, read_text, read_value,
+};
 pub use part::{Part, next_part};
 pub use trim::{trimmed, without_front_blanks};
 pub use word::{is_named, next_word, split_word};

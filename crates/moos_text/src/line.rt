@@ -5,6 +5,7 @@ ghost use Rattle.moos_text.specs.Lines.{raw_lines, first_line, begins_comment, i
 
 use crate::end::without_last;
 use crate::trim::trimmed;
+use memchr::{memchr, memchr2};
 
 /// One line of a file.
 #[derive(Clone, Copy, Debug, PartialEq, Eq)]
@@ -132,10 +133,11 @@ fn line_end(bytes: &[u8]) -> usize
     }
 }
 
+#[tactic(auto, using(crate::proofs::Finding::first_place))]
 fn line_feed(bytes: &[u8]) -> Option<usize>
     ensures { result ≡ position (λ byte. byte == 10) bytes.now }
 {
-    bytes.iter().position(|&byte| byte == b'\n')
+    memchr(b'\n', bytes)
 }
 
 // How many bytes of a line count, and whether a quote is open behind them.
@@ -145,8 +147,23 @@ struct Content {
     unclosed: bool,
 }
 
-#[tactic(auto, using(crate::proofs::LineSteps::without_comment, crate::proofs::LineSteps::byte_more))]
 fn content_of(line: &[u8]) -> Content
+    ensures content { take result.len line.now ≡ uncommented false line.now }
+    ensures unclosed { result.unclosed ≡ is_unclosed (uncommented false line.now) }
+    ensures within { result.len ≤ length line.now }
+{
+    match memchr2(b'"', b'/', line) {
+        Some(_) => content_by_bytes(line),
+        None => Content {
+            len: line.len(),
+            unclosed: false,
+        },
+    }
+}
+
+// The same byte by byte, for a line in which there may be a quote or a comment.
+#[tactic(auto, using(crate::proofs::LineSteps::without_comment, crate::proofs::LineSteps::byte_more))]
+fn content_by_bytes(line: &[u8]) -> Content
     ensures content { take result.len line.now ≡ uncommented false line.now }
     ensures unclosed { result.unclosed ≡ is_unclosed (uncommented false line.now) }
     ensures within { result.len ≤ length line.now }

@@ -1,7 +1,7 @@
 // A pair: a variable, the sign of equality, a value.
 ghost use Rattle.std.specs.Prelude.{◌≡◌, ◌≢◌, true, false, Ok, Err, IfOk, IfErr, MatchOption, None, Some, position};
 ghost use Rattle.moos_post.specs.Words.{is_name};
-ghost use Rattle.moos_text.specs.declared.pair.PairFault.TheVariants.{BadName, NoMemory};
+ghost use Rattle.moos_text.specs.declared.pair.PairFault.TheVariants.{BadName, NoEquals, NoMemory};
 ghost use Rattle.moos_text.specs.Numbers.{milli_of};
 ghost use Rattle.moos_text.specs.Pairs.{is_equals, is_quote, sides_of, text_value, quoted_value, plain_value, written_value, sides_pair, pair_of};
 
@@ -40,14 +40,38 @@ pub fn read_pair(alloc: Global, text: &[u8]) -> Result<Pair, PairFault>
     ensures pair { IfOk result (λ pair. pair_of text.now ≡ Ok pair) }
     ensures fault { IfErr result (λ fault. fault ≢ NoMemory → pair_of text.now ≡ Err fault) }
 {
+    match pair_sides(text) {
+        Some(sides) => read_sides(alloc, sides.var, sides.as_text, sides.value),
+        None => Err(PairFault::NoEquals),
+    }
+}
+
+/// The two sides of a pair as they are written, without blanks at their ends.
+#[derive(Clone, Copy)]
+pub struct PairSides<'a> {
+    /// What must be the variable's name.
+    pub var: &'a [u8],
+    /// Whether a `:` stands before the `=`, so that the value is a text.
+    pub as_text: bool,
+    /// What must be the value.
+    pub value: &'a [u8],
+}
+
+/// The sides of the pair that a text stands for; None exactly if it has no `=`. It takes no memory, so a reader that
+/// knows the variable makes no name of it.
+pub fn pair_sides(text: &[u8]) -> Option<PairSides<'_>>
+    ensures { MatchOption result (pair_of text.now ≡ Err NoEquals) (λ sides. pair_of text.now ≡ sides_pair sides.var.now sides.as_text sides.value.now) }
+{
     match equals_at(text) {
         Some(equals) => {
             let side = &text[..equals];
-            let var = trimmed(without_last(side, b':'));
-            let value = trimmed(&text[equals + 1..]);
-            read_sides(alloc, var, ends_with(side, b':'), value)
+            Some(PairSides {
+                var: trimmed(without_last(side, b':')),
+                as_text: ends_with(side, b':'),
+                value: trimmed(&text[equals + 1..]),
+            })
         }
-        None => Err(PairFault::NoEquals),
+        None => None,
     }
 }
 
@@ -87,7 +111,8 @@ fn read_var(alloc: Global, bytes: &[u8]) -> Result<Name, PairFault>
     }
 }
 
-fn read_value(alloc: Global, as_text: bool, side: &[u8]) -> Result<Value, PairFault>
+/// The value that is written so: a text between two `"`; or else a number if it is one and isn't to be a text, or a text.
+pub fn read_value(alloc: Global, as_text: bool, side: &[u8]) -> Result<Value, PairFault>
     ensures value { IfOk result (λ value. written_value as_text side.now ≡ Ok value) }
     ensures fault { IfErr result (λ fault. fault ≢ NoMemory → written_value as_text side.now ≡ Err fault) }
 {

@@ -3,6 +3,7 @@ ghost use Rattle.std.specs.Prelude.{◌≡◌, ◌+◌, ◌<◌, ◌≤◌, [], 
 ghost use Rattle.moos_text.specs.Pairs.{parts_of};
 
 use crate::line::is_quoted_after;
+use memchr::memchr2;
 
 /// One part of a text that gives several, between one `#` outside quotes and the next.
 #[derive(Clone, Copy, Debug, PartialEq, Eq)]
@@ -37,8 +38,20 @@ pub fn next_part(text: &[u8], from: usize) -> Part
 }
 
 // Where the first `#` outside quotes is, or the end.
-#[tactic(auto, using(crate::proofs::Parts::parts_begin, crate::proofs::Parts::part_more, crate::proofs::Parts::part_ends, crate::proofs::Parts::last_ends))]
 fn part_len(text: &[u8]) -> usize
+    ensures within { result ≤ length text.now }
+    ensures cut { result < length text.now → parts_of text.now ≡ take result text.now ∷ parts_of (drop (result + 1) text.now) }
+    ensures last { result ≡ length text.now → parts_of text.now ≡ text.now ∷ [] }
+{
+    match memchr2(b'"', b'#', text) {
+        Some(_) => part_len_by_bytes(text),
+        None => text.len(),
+    }
+}
+
+// The same byte by byte, for a text in which there is a quote or a `#`.
+#[tactic(auto, using(crate::proofs::Parts::parts_begin, crate::proofs::Parts::part_more, crate::proofs::Parts::part_ends, crate::proofs::Parts::last_ends))]
+fn part_len_by_bytes(text: &[u8]) -> usize
     ensures within { result ≤ length text.now }
     ensures cut { result < length text.now → parts_of text.now ≡ take result text.now ∷ parts_of (drop (result + 1) text.now) }
     ensures last { result ≡ length text.now → parts_of text.now ≡ text.now ∷ [] }

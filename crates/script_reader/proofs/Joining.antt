@@ -5,7 +5,7 @@ use Rattle.std.specs.List.{All, list_any, position, position_or_len}
 use Rattle.std.specs.Option.{unwrap_or}
 use Rattle.std.proofs.Math.Numerals.{one-add}
 use Rattle.std.proofs.lemmas.Bool.{leb-false, le-ltb, lt-leb, lt-ltb, ltb-false, ltb-true}
-use Rattle.std.proofs.lemmas.List.{length-map, map-append}
+use Rattle.std.proofs.lemmas.List.{length-map, map-append, map-id}
 use Rattle.std.proofs.lemmas.List.Elements.{All-get_or}
 use Rattle.std.proofs.lemmas.List.Quantifiers.{position-Some}
 use Rattle.std.proofs.lemmas.Slice.Eq.{bytes_eq-Decides}
@@ -133,3 +133,28 @@ module _ {Key : Type 0} (shown : Key → List ℕ) where
           → map shown (cond known keys (keys ++ name ∷ [])) ≡ with_client (map shown keys) (shown name)
       at true is = ap (λ known. cond known (map shown keys) (map shown keys ++ shown name ∷ [])) is
       at false is = map-append shown keys (name ∷ []) ∙ ap (λ known. cond known (map shown keys) (map shown keys ++ shown name ∷ [])) is
+
+-- a name is among these where its place is
+among : (name : List ℕ) (names : List (List ℕ)) → list_any (bytes_eq name) names ≡ nat_lt (client_number names name) (length names)
+among name names = is_among (λ one. one) name names ∙ ap (λ ones. nat_lt (client_number ones name) (length ones)) (map-id names)
+
+-- a name that has a place is among them
+pub placed_among : (name : List ℕ) (names : List (List ℕ)) (place : ℕ) → position (λ client. bytes_eq client name) names ≡ Some place → true ≡ list_any (bytes_eq name) names
+placed_among name names place found =
+    let at = position-Some (λ client. bytes_eq client name) names place [] found in
+    sym (among name names ∙ ap (λ n. nat_lt n (length names)) (is_number names name place found) ∙ lt-ltb place (length names) at.0)
+
+-- a name that has no place isn't
+pub none_among : (name : List ℕ) (names : List (List ℕ)) → position (λ client. bytes_eq client name) names ≡ None → false ≡ list_any (bytes_eq name) names
+none_among name names none =
+    sym (among name names ∙ ap (λ n. nat_lt n (length names)) (is_new names name none) ∙ le-ltb (length names) (length names) (omega arith))
+
+-- what stands at the place of a name is that name
+pub placed_same : (name : List ℕ) (names : List (List ℕ)) (place : ℕ) (known : List ℕ) → position (λ client. bytes_eq client name) names ≡ Some place → known ≡ get_or names place known → known ≡ name
+placed_same name names place known found got =
+    let at = position-Some (λ client. bytes_eq client name) names place known found in
+    got ∙ (bytes_eq-Decides (get_or names place known) name).0 at.1
+
+-- a name that isn't among them joins them behind all others
+pub new_joins : (name : List ℕ) (names : List (List ℕ)) → list_any (bytes_eq name) names ≡ false → with_client names name ≡ names ++ name ∷ []
+new_joins name names none = ap (λ known. cond known names (names ++ name ∷ [])) (sym (among name names) ∙ none)

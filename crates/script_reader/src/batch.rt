@@ -1,13 +1,14 @@
 // The pairs of a post line.
-ghost use Rattle.std.specs.Prelude.{◌≡◌, [], Ok, Err, IfOk, OnOk, IfErr};
-ghost use Rattle.moos_text.specs.Pairs.{pair_of, parts_of};
+ghost use Rattle.std.specs.Prelude.{◌≡◌, [], Ok, Err, IfOk, IfErr, bytes_eq};
+ghost use Rattle.std.specs.List.{list_any};
+ghost use Rattle.moos_text.specs.Pairs.{pair_of, parts_of, sides_pair, with_value, written_value};
 ghost use Rattle.moos_text.specs.Refusals.{IsLineFault};
 ghost use Rattle.moos_text.specs.declared.pair.PairFault.TheVariants.{NoMemory};
-ghost use Rattle.script_reader.specs.Script.{posting, with_pair, with_part, with_parts, with_cause, cause_of};
+ghost use Rattle.script_reader.specs.Script.{posting, with_pair, with_part, with_parts, with_cause, with_known, cause_of};
 
-use crate::variables::PostedVariables;
-use moos_post::{Batch, NoMemory, Pair};
-use moos_text::{Cause, Limit, LineFault, PairFault, next_part, read_pair};
+use crate::variables::{Found, PostedVariables};
+use moos_post::{Batch, Name, Pair};
+use moos_text::{Cause, Limit, LineFault, PairFault, next_part, pair_sides, read_value};
 use std::alloc::Global;
 
 // The most pairs of a post.
@@ -46,16 +47,55 @@ fn add_part(
     ensures read { IfOk result (λ _. with_part (posting variables.old batch.old) part.now ≡ Ok (posting variables.new batch.new)) }
     ensures refused { IfErr result (λ fault. IsLineFault fault (with_part (posting variables.old batch.old) part.now)) }
 {
-    let pair = pair_of(alloc, part)?;
-    add_pair(alloc, variables, batch, pair)
+    let read = pair_of(alloc, variables, part)?;
+    add_pair(alloc, variables, batch, read)
 }
 
-fn pair_of(alloc: Global, part: &[u8]) -> Result<Pair, LineFault>
-    ensures pair { IfOk result (λ pair. with_cause (pair_of part.now) ≡ Ok pair) }
+// A pair, and whether its variable was posted before.
+#[derive(Drop)]
+struct ReadPair {
+    pair: Pair,
+    is_known: bool,
+}
+
+fn pair_of(alloc: Global, variables: &PostedVariables, part: &[u8]) -> Result<ReadPair, LineFault>
+    ensures pair { IfOk result (λ read. with_cause (pair_of part.now) ≡ Ok read.pair) }
+    ensures known { IfOk result (λ read. read.is_known ≡ list_any (bytes_eq read.pair.var) variables.now) }
     ensures refused { IfErr result (λ fault. IsLineFault fault (with_cause (pair_of part.now))) }
 {
-    match read_pair(alloc, part) {
-        Ok(pair) => Ok(pair),
+    match pair_sides(part) {
+        Some(sides) => pair_of_sides(alloc, variables, sides.var, sides.as_text, sides.value),
+        None => Err(LineFault::Refused(Cause::S5)),
+    }
+}
+
+fn pair_of_sides(
+    alloc: Global,
+    variables: &PostedVariables,
+    var: &[u8],
+    as_text: bool,
+    value: &[u8],
+) -> Result<ReadPair, LineFault>
+    ensures pair { IfOk result (λ read. with_cause (sides_pair var.now as_text value.now) ≡ Ok read.pair) }
+    ensures known { IfOk result (λ read. read.is_known ≡ list_any (bytes_eq read.pair.var) variables.now) }
+    ensures refused { IfErr result (λ fault. IsLineFault fault (with_cause (sides_pair var.now as_text value.now))) }
+{
+    match variables.name_of(alloc, var) {
+        Ok(Found { name, is_known }) => {
+            let pair = pair_with(alloc, name, as_text, value)?;
+            Ok(ReadPair { pair, is_known })
+        }
+        Err(fault) => Err(fault),
+    }
+}
+
+fn pair_with(alloc: Global, var: Name, as_text: bool, side: &[u8]) -> Result<Pair, LineFault>
+    ensures pair { IfOk result (λ pair. with_cause (with_value var (written_value as_text side.now)) ≡ Ok pair) }
+    ensures var { IfOk result (λ pair. pair.var ≡ var) }
+    ensures refused { IfErr result (λ fault. IsLineFault fault (with_cause (with_value var (written_value as_text side.now)))) }
+{
+    match read_value(alloc, as_text, side) {
+        Ok(value) => Ok(Pair { var, value }),
         Err(PairFault::NoMemory) => Err(LineFault::NoMemory),
         Err(fault) => Err(LineFault::Refused(cause_of(fault))),
     }
@@ -75,27 +115,34 @@ fn add_pair(
     alloc: Global,
     variables: &mut PostedVariables,
     batch: &mut Batch,
-    pair: Pair,
+    read: ReadPair,
 ) -> Result<(), LineFault>
-    ensures read { IfOk result (λ _. with_pair (posting variables.old batch.old) pair ≡ Ok (posting variables.new batch.new)) }
-    ensures refused { IfErr result (λ fault. IsLineFault fault (with_pair (posting variables.old batch.old) pair)) }
+    requires { read.is_known ≡ list_any (bytes_eq read.pair.var) variables.old }
+    ensures read { IfOk result (λ _. with_pair (posting variables.old batch.old) read.pair ≡ Ok (posting variables.new batch.new)) }
+    ensures refused { IfErr result (λ fault. IsLineFault fault (with_pair (posting variables.old batch.old) read.pair)) }
 {
     if batch.len() >= MAX_PAIRS {
         return Err(LineFault::Refused(Cause::S8(Limit::Batch)));
     }
-    let Pair { var, value } = pair;
-    let var = variables.add(alloc, var)?;
-    make_room(alloc, batch)?;
-    batch.add(Pair { var, value })?;
+    let ReadPair { pair, is_known } = read;
+    know(alloc, variables, &pair.var, is_known)?;
+    batch.add(pair)?;
     Ok(())
 }
 
-// Room for the first pair alone, since most posts have no other: what is taken and given back would leave gaps in memory.
-fn make_room(alloc: Global, batch: &mut Batch) -> Result<(), NoMemory>
-    ensures { OnOk result (batch.new ≡ batch.old) }
+// The variable is posted, which was so before if it is known.
+fn know(
+    alloc: Global,
+    variables: &mut PostedVariables,
+    var: &Name,
+    is_known: bool,
+) -> Result<(), LineFault>
+    requires { is_known ≡ list_any (bytes_eq var.now) variables.old }
+    ensures read { IfOk result (λ _. with_known variables.old var.now ≡ Ok variables.new) }
+    ensures refused { IfErr result (λ fault. IsLineFault fault (with_known variables.old var.now)) }
 {
-    if batch.len() == 0 {
-        *batch = Batch::of(Vec::with_capacity(alloc, 1)?);
+    if is_known {
+        return Ok(());
     }
-    Ok(())
+    variables.add(alloc, var)
 }

@@ -5,15 +5,15 @@
 //!
 //! `line_of_client` tells the first line of given clients, for jobs that have clients of their own.
 //!
-//! Read `script`, `word`, `call`, `batch`, `reading`, and `read` last; `variables` serves the limit on them, and `clients`
-//! their look-up.
+//! Read `script`, `word`, `call`, `batch`, `reading`, and `read` last; `variables` serves the limit on them, and `numbered`
+//! their look-up and that of the clients.
 #![tactic(auto)]
 
 mod batch;
 mod call;
 mod client_line;
-mod clients;
 mod law;
+mod numbered;
 mod read;
 mod reading;
 mod script;

@@ -6,7 +6,7 @@ ghost use Rattle.script_reader.specs.Script.{client_number, is_register, client_
 ghost use Rattle.script_reader.specs.Counts.{AreCounts, with_made, with_name, with_call, after_call};
 
 use crate::call::call_of;
-use crate::clients::Clients;
+use crate::numbered::Numbered;
 use crate::script::{Lines, Script};
 use crate::variables::PostedVariables;
 use crate::word::{time_of, with_none_behind};
@@ -27,7 +27,7 @@ pub struct ScriptReading {
     pub filled: usize,
     pub made: [u32; 64],
     pub variables: PostedVariables,
-    pub clients: Clients,
+    pub clients: Numbered,
 }
 
 impl ScriptReading {
@@ -45,7 +45,7 @@ impl ScriptReading {
             filled: 0,
             made: no_registrations(),
             variables: PostedVariables::new(alloc),
-            clients: Clients::new(alloc),
+            clients: Numbered::new(alloc),
         }
     }
 

@@ -1,16 +1,20 @@
-use Rattle.std.proofs.Common.{◌≡◌, sym, subst}
-use Rattle.std.specs.Prelude.{List, ℕ, Option, Some, None, IfSome, option_copied}
-use Rattle.std.specs.Borrow.{Bor}
-use Rattle.std.proofs.lemmas.Map.Made.{IfSome-find_same}
-use Rattle.std.proofs.lemmas.Slice.Eq.{bytes_eq-Decides}
+use Rattle.std.proofs.Common.{◌∙◌, ap, bytes_eq, sym}
+use Rattle.std.specs.List.{position}
+use Rattle.script_reader.proofs.Joining.{placed_among, none_among, placed_same}
 use Rattle.script_reader.proofs.variables.PostedVariables.get.Goals as goal
 
-of_copied : (name : List ℕ) (found : Option (Bor (List ℕ))) → IfSome (option_copied found) (λ known. known ≡ name) → IfSome found (λ known. known.now ≡ name)
-of_copied name None same = same
-of_copied name (Some known) same = same
+pub returns-in-Some-clause-found : goal.returns-in-Some-clause-found
+returns-in-Some-clause-found c =
+    placed_among c.args.name.now c.args.self.now c.in-Some.place
+    (ap (position (λ client. bytes_eq client c.args.name.now)) (sym (c.self.invariant ∙ c.self.view_is)) ∙ sym c.in-Some.ensures)
 
-pub returns-clause-same : goal.returns-clause-same
-returns-clause-same c =
-    of_copied c.args.name.now c.get.result
-    (subst (λ found. IfSome found (λ known. known ≡ c.args.name.now)) (sym c.get.ensures.key)
-    (IfSome-find_same bytes_eq-Decides c.args.name.now c.self.inside.set.keys))
+pub returns-in-Some-clause-same : goal.returns-in-Some-clause-same
+returns-in-Some-clause-same c =
+    placed_same c.args.name.now c.self.inside.names.items c.in-Some.place c.index.result.now
+    (ap (position (λ client. bytes_eq client c.args.name.now)) (sym c.self.invariant) ∙ sym c.in-Some.ensures)
+    c.index.ensures
+
+pub returns-in-None-clause-found : goal.returns-in-None-clause-found
+returns-in-None-clause-found c =
+    none_among c.args.name.now c.args.self.now
+    (ap (position (λ client. bytes_eq client c.args.name.now)) (sym (c.self.invariant ∙ c.self.view_is)) ∙ sym c.in-None.ensures)

@@ -1,7 +1,7 @@
 use Rattle.std.proofs.Common.{◌∙◌, ap, bytes_eq}
 use Rattle.std.specs.List.{position}
 use Rattle.script_reader.proofs.Joining.{looked_up}
-use Rattle.script_reader.proofs.clients.Clients.number_of.Goals as goal
+use Rattle.script_reader.proofs.numbered.Numbered.number_of.Goals as goal
 
 pub returns : goal.returns
 returns c =

@@ -1,7 +1,7 @@
 use Rattle.std.proofs.Common.{◌≡◌, ◌++◌, false, take, drop}
 use Rattle.std.specs.Prelude.{fold}
 use Rattle.moos_text.specs.Lines.{is_quoted_after, uncommented}
-use Rattle.moos_text.proofs.line.content_of.Given as goal
+use Rattle.moos_text.proofs.line.content_by_bytes.Given as goal
 
 -- The bytes before the index count, and a quote is open behind them or not.
 abbrev pub invariant-loop-len : goal.invariant-loop-len

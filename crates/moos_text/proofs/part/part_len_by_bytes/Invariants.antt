@@ -1,7 +1,7 @@
 use Rattle.std.proofs.Common.{◌≡◌, take, drop}
 use Rattle.moos_text.specs.Pairs.{parts_of, parts_from}
 use Rattle.moos_text.proofs.Parts.{onto_part}
-use Rattle.moos_text.proofs.part.part_len.Given as goal
+use Rattle.moos_text.proofs.part.part_len_by_bytes.Given as goal
 
 -- The bytes before the index stand in the first part.
 abbrev pub invariant-loop-len : goal.invariant-loop-len
