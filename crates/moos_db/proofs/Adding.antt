@@ -10,7 +10,7 @@ use Rattle.moos_mail.proofs.Lists.{found-below}
 use Rattle.moos_post.specs.declared.value.Post.{Post}
 use Rattle.moos_post.specs.Delivery.{Inbox}
 use Rattle.moos_db.specs.Clients.{ClientState}
-use Rattle.moos_db.specs.Subscriptions.{HearBelow, AreKeptAs, AreKnown, AreNoted, AreNumbers, AreReady, HasLatest, IsAdded, IsHeardBy, IsNumbering, MayAdd, VariableState, VariablesState, fresh_subscriptions, name_at}
+use Rattle.moos_db.specs.Subscriptions.{HearBelow, AreKeptAs, AreKnown, AreNoted, AreNumbers, AreReady, HasLatest, HasRecipients, IsAdded, IsHeardBy, IsNumbering, MayAdd, VariableState, VariablesState, fresh_subscriptions, name_at}
 use Rattle.moos_db.specs.Tables.{GetsNumber, latest_post_from, number_of, Row}
 use Rattle.moos_db.proofs.Changes.{named-at}
 use Rattle.moos_db.proofs.Hearing.{subscriptions-fresh}
@@ -107,7 +107,7 @@ known-more clients inboxes var number numbers after numbered known client below 
 
 -- the new variable is heard as the inboxes say
 heard-new : (inboxes : ℕ → Inbox) (posts : List Post) (clients : List ClientState) (before after : VariablesState) (var : List ℕ) (added : IsAdded clients var before after) → AreKeptAs inboxes posts before clients →
-    number_of var before.numbers ≡ None → IsHeardBy (length clients) inboxes (record { name = var; latest = None; subscriptions = added.subscriptions; room = added.room })
+    number_of var before.numbers ≡ None → IsHeardBy (length clients) inboxes (record { name = var; latest = None; recipients = added.recipients; subscriptions = added.subscriptions; room = added.room })
 heard-new inboxes posts clients before after var added kept unknown = record {
   each = λ client below.
       let here = found-below clients client below in
@@ -121,7 +121,7 @@ heard-new inboxes posts clients before after var added kept unknown = record {
 added-ready : (inboxes : ℕ → Inbox) (posts : List Post) (clients : List ClientState) (before after : VariablesState) (var : List ℕ) → IsAdded clients var before after → IsNumbering before.all before.numbers →
     number_of var before.numbers ≡ None → AreReady inboxes posts before clients → AreReady inboxes posts after clients
 added-ready inboxes posts clients before after var added numbering unknown ready =
-    let new : VariableState = record { name = var; latest = None; subscriptions = added.subscriptions; room = added.room } in
+    let new : VariableState = record { name = var; latest = None; recipients = added.recipients; subscriptions = added.subscriptions; room = added.room } in
     let with_new : VariablesState = record { all = before.all ++ new ∷ []; numbers = after.numbers; noted = before.noted } in
     let is : after ≡ with_new = λ i. record { all = added.all i; numbers = after.numbers; noted = added.noted i } in
     subst (λ variables. AreReady inboxes posts variables clients) (sym is) (record {
@@ -131,6 +131,8 @@ added-ready inboxes posts clients before after var added numbering unknown ready
           heard = All-push (IsHeardBy (length clients) inboxes) before.all new ready.stand.heard.heard (heard-new inboxes posts clients before after var added ready.stand unknown);
           latest = All-push (HasLatest posts) before.all new ready.stand.heard.latest
               (sym (unposted before.all before.numbers var 0 None (take (length posts) before.noted) posts numbering unknown ready.noted refl));
+          recipients = All-push (HasRecipients (length clients) inboxes) before.all new ready.stand.heard.recipients
+              (record { each = added.marked; mailed = λ client number below none. absurd (none-some number none) });
           known = known-more (length clients) inboxes var (length before.all) before.numbers after.numbers added.numbers ready.stand.heard.known;
         };
       };
@@ -147,14 +149,14 @@ pub may-add-below : (clients : List ClientState) (before after : VariablesState)
 may-add-below clients before after var (inl same) below = subst (λ (variables : VariablesState). HearBelow (length clients) variables.all) (sym same) below
 may-add-below clients before after var (inr (unknown, added)) below =
     subst (HearBelow (length clients)) (sym added.all)
-    (All-push (λ (variable : VariableState). All (λ subscription. subscription.client < length clients) variable.subscriptions) before.all (record { name = var; latest = None; subscriptions = added.subscriptions; room = added.room }) below added.within)
+    (All-push (λ (variable : VariableState). All (λ subscription. subscription.client < length clients) variable.subscriptions) before.all (record { name = var; latest = None; recipients = added.recipients; subscriptions = added.subscriptions; room = added.room }) below added.within)
 
 -- those that were noted stay so
 pub may-add-noted : (clients : List ClientState) (before after : VariablesState) (var : List ℕ) (vars : List (List ℕ)) → MayAdd clients var before after → AreNoted vars before → AreNoted vars after
 may-add-noted clients before after var vars (inl same) noted = subst (AreNoted vars) (sym same) noted
 may-add-noted clients before after var vars (inr (unknown, added)) noted =
     ap (map (name_at after.all)) added.noted ∙ ap (λ all. map (name_at all) before.noted) added.all
-    ∙ names-front before.all (record { name = var; latest = None; subscriptions = added.subscriptions; room = added.room } ∷ []) before.noted vars noted
+    ∙ names-front before.all (record { name = var; latest = None; recipients = added.recipients; subscriptions = added.subscriptions; room = added.room } ∷ []) before.noted vars noted
 
 -- the first of those that are noted are as many as there are posts
 pub noted-enough : (variables : List VariableState) (noted : List ℕ) (posts : List Post) → map (name_at variables) (take (length posts) noted) ≡ map (λ var. Some var) (map (λ (post : Post). post.var) posts) → length posts ≤ length noted
@@ -172,7 +174,7 @@ noted-enough variables noted posts are =
 pub ready-noted : (inboxes : ℕ → Inbox) (posts : List Post) (clients : List ClientState) (variables : VariablesState) (number : ℕ) → AreReady inboxes posts variables clients →
     AreReady inboxes posts (record variables { noted = variables.noted ++ number ∷ [] }) clients
 ready-noted inboxes posts clients variables number ready = record {
-  stand = record { clients = ready.stand.clients; heard = record { heard = ready.stand.heard.heard; latest = ready.stand.heard.latest; known = ready.stand.heard.known } };
+  stand = record { clients = ready.stand.clients; heard = record { heard = ready.stand.heard.heard; latest = ready.stand.heard.latest; recipients = ready.stand.heard.recipients; known = ready.stand.heard.known } };
   noted = ap (map (name_at variables.all)) (take-append-le (length posts) variables.noted (number ∷ []) (noted-enough variables.all variables.noted posts ready.noted)) ∙ ready.noted;
 }
 

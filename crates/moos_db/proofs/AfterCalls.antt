@@ -8,14 +8,12 @@ use Rattle.std.proofs.lemmas.List.Sums.{fold-append}
 use Rattle.moos_post.specs.declared.entry.Call.TheVariants.{Unregister, Fetch}
 use Rattle.moos_post.specs.declared.entry.Entry.{Entry}
 use Rattle.moos_post.specs.declared.value.Post.{Post}
-use Rattle.moos_post.specs.Delivery.{empty_inbox, Inbox, inbox_of, mail_after, waiting, with_entry, with_own, with_post, without_patterns}
+use Rattle.moos_post.specs.Delivery.{empty_inbox, Inbox, inbox_of, mail_after, waiting, was_mailed, with_entry, with_own, with_post, without_patterns}
 use Rattle.moos_post.specs.History.{History, posts_of, posts_of_entry}
-use Rattle.moos_mail.specs.Mailboxes.{in_rising_order}
-use Rattle.moos_mail.proofs.Appending.{numbers}
 use Rattle.moos_mail.proofs.Joined.{none_waits}
 use Rattle.moos_mail.proofs.Orderly.{settled-inbox_of}
 use Rattle.moos_db.specs.Clients.{ClientState, IsClient, registration_of}
-use Rattle.moos_db.specs.Subscriptions.{AreHeard, AreKeptAs, AreNoted, IsHeardBy, HasKnown, VariableState, VariablesState, subscriptions_of, with_inbox, with_lives}
+use Rattle.moos_db.specs.Subscriptions.{AreHeard, AreKeptAs, AreNoted, HasRecipients, IsHeardBy, HasKnown, VariableState, VariablesState, subscriptions_of, with_inbox, with_lives}
 use Rattle.moos_db.specs.Places.{AreKept, inboxes_after}
 use Rattle.moos_db.specs.Registering.{AreStill, IsStill}
 use Rattle.moos_db.proofs.Changes.{AreClients-set, AreNoted-names, at-each, names-each, set-cases}
@@ -31,11 +29,13 @@ pub record IsAlike (inbox other : Inbox) : Type 0 where
   pub waits : waiting other ≡ waiting inbox
 
 AreHeard-alike : (clients : ℕ) (inboxes others : ℕ → Inbox) (posts : List Post) (variables : VariablesState) → ((client : ℕ) → (others client).lives ≡ (inboxes client).lives) →
-    AreHeard clients inboxes posts variables → AreHeard clients others posts variables
-AreHeard-alike clients inboxes others posts variables alike held = record {
+    ((client : ℕ) → (others client).mailed ≡ (inboxes client).mailed) → AreHeard clients inboxes posts variables → AreHeard clients others posts variables
+AreHeard-alike clients inboxes others posts variables alike mailed held = record {
   heard = All-weaker (IsHeardBy clients inboxes) (IsHeardBy clients others)
       (λ variable heard. record { each = λ client below. heard.each client below ∙ ap (subscriptions_of client variable.name) (sym (alike client)); within = heard.within }) variables.all held.heard;
   latest = held.latest;
+  recipients = All-weaker (HasRecipients clients inboxes) (HasRecipients clients others)
+      (λ variable has. record { each = has.each; mailed = λ client number below latest. has.mailed client number below latest ∙ ap (was_mailed number) (sym (mailed client)) }) variables.all held.recipients;
   known = λ client below. subst (All (HasKnown variables.numbers)) (sym (alike client)) (held.known client below);
 }
 
@@ -44,10 +44,9 @@ pub AreKeptAs-alike : (inboxes others : ℕ → Inbox) (posts : List Post) (vari
 AreKeptAs-alike inboxes others posts variables clients alike held = record {
   clients = λ number client there. record {
     lives = (held.clients number client there).lives ∙ ap (map registration_of) (sym (alike number).lives);
-    mailed = (held.clients number client there).mailed ∙ ap (λ mailed. in_rising_order (numbers mailed)) (sym (alike number).mailed);
     waits = (held.clients number client there).waits ∙ sym (alike number).waits;
   };
-  heard = AreHeard-alike (length clients) inboxes others posts variables (λ client. (alike client).lives) held.heard;
+  heard = AreHeard-alike (length clients) inboxes others posts variables (λ client. (alike client).lives) (λ client. (alike client).mailed) held.heard;
 }
 
 pub no-posts : (history : History) (entry : Entry) → posts_of_entry entry ≡ [] → posts_of (history ++ entry ∷ []) ≡ posts_of history
@@ -82,9 +81,10 @@ AreKept-fetch names history stamp client variables clients one spare there befor
     AreKept-quiet names history (record { stamp = stamp; client = client; call = Fetch }) variables variables clients (set clients client other) refl (length-set clients client other) (λ vars noted. noted) before
     (record {
       clients = AreClients-set client fetches inboxes clients other
-          (record { lives = is.lives; mailed = is.mailed; waits = sym (none_waits (inboxes client) (settled-inbox_of names client history)) }) before.kept.clients;
+          (record { lives = is.lives; waits = sym (none_waits (inboxes client) (settled-inbox_of names client history)) }) before.kept.clients;
       heard = subst (λ n. AreHeard n (with_inbox client fetches inboxes) (posts_of history) variables) (sym (length-set clients client other))
-          (AreHeard-alike (length clients) inboxes (with_inbox client fetches inboxes) (posts_of history) variables (at-each client fetches inboxes (λ n inbox. inbox.lives ≡ (inboxes n).lives) refl (λ n apart. refl)) before.kept.heard);
+          (AreHeard-alike (length clients) inboxes (with_inbox client fetches inboxes) (posts_of history) variables (at-each client fetches inboxes (λ n inbox. inbox.lives ≡ (inboxes n).lives) refl (λ n apart. refl))
+          (at-each client fetches inboxes (λ n inbox. inbox.mailed ≡ (inboxes n).mailed) refl (λ n apart. refl)) before.kept.heard);
     })
 
 -- more room with a client, or less
@@ -100,7 +100,6 @@ AreKept-room names history client variables clients one other there same are =
         clients = λ number state found. elim (set-cases clients client number other state found) [
           | inl own ↦ subst (λ n. IsClient (inboxes n) state) (sym own.0) (subst (IsClient (inboxes client)) (sym own.1) (record {
             lives = ap (λ (c : ClientState). c.lives) same ∙ is.lives;
-            mailed = ap (λ (c : ClientState). c.mailed) same ∙ is.mailed;
             waits = ap (λ (c : ClientState). c.waits) same ∙ is.waits;
           }))
           | inr apart ↦ are.kept.clients number state apart.1

@@ -1,30 +1,28 @@
 -- The posts of an entry are mailed one after the other.
-use Rattle.std.proofs.Common.{◌≡◌, ◌∙◌, ◌<◌, ◌≤◌, ◌+◌, ◌-◌, ℕ, suc, Bool, true, false, ◌==◌, ◌^◌, List, [], ◌∷◌, ◌++◌, append-nil, append_assoc, fold, map, length, take, slice_get, Option, None, Some, option_map, refl, ap, sym, subst, inl, inr, if◌then◌else◌, get_or, arith, length-append}
+use Rattle.std.proofs.Common.{◌≡◌, ◌∙◌, ◌<◌, ◌≤◌, ◌+◌, ◌-◌, ℕ, suc, Bool, true, false, ◌==◌, ◌^◌, List, [], ◌∷◌, ◌++◌, append-nil, append_assoc, fold, map, length, take, slice_get, Option, None, Some, option_map, refl, ap, sym, subst, inl, inr, if◌then◌else◌, arith, length-append}
 use Rattle.std.specs.List.{All}
 use Rattle.std.proofs.iter.runs.Lists.{nth_right}
 use Rattle.std.proofs.lemmas.List.{length-map, length-take-le, map-append, take_all, take_more}
 use Rattle.std.proofs.lemmas.List.Concat.{flat_map-append}
 use Rattle.std.proofs.lemmas.List.Elements.{All-map, All-weaker}
 use Rattle.std.proofs.lemmas.List.Sums.{fold-append}
-use Rattle.std.proofs.lemmas.Option.{get_or_from_slice_get, none-some, same_Some, slice_get-get_or, slice_get-map, slice_get_within}
+use Rattle.std.proofs.lemmas.Option.{get_or_from_slice_get, none-some, same_Some, slice_get-map, slice_get_within}
 use Rattle.moos_post.specs.declared.entry.Call.{Call}
 use Rattle.moos_post.specs.declared.entry.Call.TheVariants.{Register, Unregister, Post as Posts, Fetch}
 use Rattle.moos_post.specs.declared.entry.Entry.{Entry}
 use Rattle.moos_post.specs.declared.value.Post.{Post}
 use Rattle.moos_post.specs.Delivery.{Inbox, inbox_of, with_own, with_post}
 use Rattle.moos_post.specs.History.{History, name_of, posts_of, posts_of_entry}
-use Rattle.moos_mail.specs.Mailboxes.{is_one_of}
-use Rattle.moos_mail.proofs.Appending.{one_of-mailed}
 use Rattle.moos_mail.proofs.Inboxes.{keeps-posts, posts-inbox_of, posts-posts}
 use Rattle.moos_mail.proofs.Lists.{found-below}
 use Rattle.moos_mail.proofs.Orderly.{IsOrderly, orderly-keeps, settled-inbox_of}
 use Rattle.moos_db.specs.declared.mail.Origin.{Origin}
 use Rattle.moos_db.specs.Clients.{ClientState}
 use Rattle.moos_db.specs.Database.{origin_of}
-use Rattle.moos_db.specs.Subscriptions.{HearBelow, AreKeptAs, AreNoted, AreReady, HasRoom, HaveLetterRoom, SubscriptionState, IsHeardBy, IsPosted, VariableState, VariablesState, after_hearing, hears_due, name_at}
+use Rattle.moos_db.specs.Subscriptions.{HearBelow, AreKeptAs, AreNoted, AreReady, HasRecipients, HasRoom, HaveLetterRoom, HaveMarks, SubscriptionState, IsHeardBy, IsPosted, VariableState, VariablesState, after_hearing, hears_due, name_at}
 use Rattle.moos_db.specs.Places.{AreKept, inboxes_after, makes_posts}
 use Rattle.moos_db.proofs.AfterCalls.{AreKeptAs-alike, IsAlike, next-inbox}
-use Rattle.moos_db.proofs.AfterPosts.{none-ahead, posted-kept}
+use Rattle.moos_db.proofs.AfterPosts.{posted-kept}
 use Rattle.moos_db.proofs.AfterRegistering.{set-names}
 use Rattle.moos_db.proofs.Changes.{AreNoted-names, name-noted, names-at, set-cases}
 use Rattle.moos_db.proofs.Hearing.{stamped-client}
@@ -64,16 +62,10 @@ pub kept-below : (inboxes : ℕ → Inbox) (posts : List Post) (variables : Vari
 kept-below inboxes posts variables clients stand =
     All-weaker (IsHeardBy (length clients) inboxes) (λ (variable : VariableState). All (λ subscription. subscription.client < length clients) variable.subscriptions) (λ variable heard. heard.within) variables.all stand.heard.heard
 
--- the next post was mailed to nobody
-pub posting-new : (names : List (List ℕ)) (history : History) (later : List Post) (done : ℕ) (variables : VariablesState) (clients : List ClientState) → IsPosting names history later done variables clients →
-    done < length later → All (λ (client : ClientState). is_one_of (length (posts_of history) + done) client.mailed ≡ false) clients
-posting-new names history later done variables clients state next k d within =
-    let number : ℕ = length (posts_of history) + done in
-    let inbox : Inbox = posted_to names history (take done later) k in
-    ap (is_one_of number) (state.stand.clients k (get_or clients k d) (slice_get-get_or clients k d within)).mailed
-    ∙ one_of-mailed number inbox.mailed
-    ∙ none-ahead inbox number (posted-orderly names history (take done later) k)
-    (omega (arith, ap length (posted-posts names history (take done later) k), length-append (posts_of history) (take done later), length-take-le done later (omega (arith, next))))
+-- of each variable there is a mark for each client
+pub kept-marks : (inboxes : ℕ → Inbox) (posts : List Post) (variables : VariablesState) (clients : List ClientState) → AreKeptAs inboxes posts variables clients → HaveMarks (length clients) variables.all
+kept-marks inboxes posts variables clients stand =
+    All-weaker (HasRecipients (length clients) inboxes) (λ (variable : VariableState). length variable.recipients ≡ length clients) (λ variable has. has.each) variables.all stand.heard.recipients
 
 -- there is one place less of room for the others
 room-less : (more : ℕ) (before after : List ClientState) (subscription : SubscriptionState) → length after ≡ length before →
@@ -99,7 +91,7 @@ room-posted number stamp from more source before after clients others posted roo
     ])
   where
     new : VariableState
-    new = record posted.variable { latest = Some number; subscriptions = map (after_hearing stamp source) posted.variable.subscriptions; room = posted.room }
+    new = record posted.variable { latest = Some number; recipients = posted.recipients; subscriptions = map (after_hearing stamp source) posted.variable.subscriptions; room = posted.room }
 
     was : slice_get before.noted post ≡ Some at
     was = ap (λ list. slice_get list post) (sym posted.noted) ∙ found
@@ -195,7 +187,7 @@ pub forgotten-kept : (names : List (List ℕ)) (history : History) (variables : 
 forgotten-kept names history variables clients few each ready = record {
   few = few;
   each = each;
-  kept = record { clients = ready.stand.clients; heard = record { heard = ready.stand.heard.heard; latest = ready.stand.heard.latest; known = ready.stand.heard.known } };
+  kept = record { clients = ready.stand.clients; heard = record { heard = ready.stand.heard.heard; latest = ready.stand.heard.latest; recipients = ready.stand.heard.recipients; known = ready.stand.heard.known } };
   noted = ready.noted;
 }
 

@@ -5,9 +5,9 @@ use Rattle.std.proofs.lemmas.Bool.{cases_Bool, eq-eqb, eqb-false, eqb-true, ne_e
 use Rattle.std.proofs.lemmas.List.{length-set}
 use Rattle.std.proofs.lemmas.Option.{get_or_from_slice_get, none-some, same_Some, slice_get-get_or, slice_get-map, slice_get_within}
 use Rattle.moos_post.specs.declared.value.Post.{Post}
-use Rattle.moos_post.specs.Delivery.{Inbox}
+use Rattle.moos_post.specs.Delivery.{Inbox, was_mailed}
 use Rattle.moos_db.specs.Clients.{AreClients, ClientState, IsClient}
-use Rattle.moos_db.specs.Subscriptions.{AreHeard, AreKnown, AreNoted, AreNumbers, HasLatest, IsHeardBy, VariableState, VariablesState, name_at, with_inbox}
+use Rattle.moos_db.specs.Subscriptions.{AreHeard, AreKnown, AreNoted, AreNumbers, HasLatest, HasRecipients, IsHeardBy, VariableState, VariablesState, is_recipient, name_at, with_inbox}
 use Rattle.moos_db.specs.Registering.{AreEach, AreEachAt, variable_names}
 use Rattle.moos_db.specs.Tables.{latest_post_of, number_of}
 
@@ -109,17 +109,24 @@ name-noted vars variables post number variable there at noted =
     through None is named = absurd (let e : Some (Some variable.name) ≡ None = named in cc)
     through (Some var) is named = is ∙ (let e : Some (Some variable.name) ≡ Some (Some var) = named in cc)
 
--- a variable is heard as the inboxes now say, where it was heard as they said, and its latest post is the same
+-- a variable is heard as the inboxes now say, where it was heard as they said, and its latest post is the same and was mailed to the same
 pub record IsHeardSo (clients : ℕ) (inboxes now : ℕ → Inbox) (one other : VariableState) : Type 0 where
   pub name : other.name ≡ one.name
   pub latest : other.latest ≡ one.latest
+  pub recipients : other.recipients ≡ one.recipients
   pub heard : IsHeardBy clients inboxes one → IsHeardBy clients now other
 
 pub heard-changed : (clients : ℕ) (inboxes now : ℕ → Inbox) (posts : List Post) (before after : VariablesState) → AreEach (IsHeardSo clients inboxes now) before.all after.all →
-    AreKnown clients now after.numbers → AreHeard clients inboxes posts before → AreHeard clients now posts after
-heard-changed clients inboxes now posts before after each known are = record {
+    ((client : ℕ) → (now client).mailed ≡ (inboxes client).mailed) → AreKnown clients now after.numbers → AreHeard clients inboxes posts before → AreHeard clients now posts after
+heard-changed clients inboxes now posts before after each mailed known are = record {
   heard = All-each (λ n. IsHeardSo clients inboxes now) (IsHeardBy clients inboxes) (IsHeardBy clients now) before.all after.all each (λ n one other so. so.heard) are.heard;
   latest = All-each (λ n. IsHeardSo clients inboxes now) (HasLatest posts) (HasLatest posts) before.all after.all each (λ n one other so latest. so.latest ∙ latest ∙ ap (λ name. latest_post_of name posts) (sym so.name)) are.latest;
+  recipients = All-each (λ n. IsHeardSo clients inboxes now) (HasRecipients clients inboxes) (HasRecipients clients now) before.all after.all each
+      (λ n one other so has. record {
+        each = ap length so.recipients ∙ has.each;
+        mailed = λ client number below latest.
+            ap (λ marks. is_recipient marks client) so.recipients ∙ has.mailed client number below (sym so.latest ∙ latest) ∙ ap (was_mailed number) (sym (mailed client));
+      }) are.recipients;
   known = known;
 }
 

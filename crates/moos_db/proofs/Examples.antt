@@ -2,20 +2,22 @@
 -- is kept of a client.
 use Rattle.std.specs.Prelude.{◌≡◌, ℕ, zero, suc, ◌<◌, Bool, bytes_eq, cond, find, if◌then◌else◌, option_map, List, [], ◌∷◌, length, Option, None, Some, unwrap_or, codes, false, true, pos, slice_get, take, slice_index_or}
 use Rattle.std.proofs.Common.{refl, ap, subst, arith, ◌∙◌}
+use Rattle.std.proofs.lemmas.Bool.{false≢true}
 use Rattle.std.proofs.lemmas.List.Elements.{All-cons, All-head, All-nil}
+use Rattle.std.proofs.lemmas.Option.{same_Some}
 use Rattle.moos_post.specs.declared.entry.Call.{Call}
 use Rattle.moos_post.specs.declared.entry.Call.TheVariants.{Register, Post as Posts, Fetch}
 use Rattle.moos_post.specs.declared.entry.Entry.{Entry}
 use Rattle.moos_post.specs.declared.registration.Reg.{Reg}
 use Rattle.moos_post.specs.declared.value.Post.{Post}
 use Rattle.moos_post.specs.declared.value.Value.TheVariants.{Num}
-use Rattle.moos_post.specs.Delivery.{Inbox, last_stamp, mail_at, mailing}
+use Rattle.moos_post.specs.Delivery.{Inbox, last_stamp, mail_at, mailing, was_mailed}
 use Rattle.moos_post.specs.History.{History, posts_of}
 use Rattle.moos_post.proofs.Texts.{bytes_eq_comm}
 use Rattle.moos_db.specs.Database.{after_entry, AreLetters, AreMails, Database, letter_at, letter_of, origin_of, pair_posted}
 use Rattle.moos_db.specs.declared.mail.Letter.{Letter}
 use Rattle.moos_db.specs.Clients.{ClientState, IsClient}
-use Rattle.moos_db.specs.Subscriptions.{AreKnown, HasLatest, SubscriptionState, subscriptions_of, IsHeardBy, HasKnown, of_client, VariableState, VariablesState, with_inbox}
+use Rattle.moos_db.specs.Subscriptions.{AreKnown, HasLatest, HasRecipients, SubscriptionState, subscriptions_of, is_recipient, IsHeardBy, HasKnown, of_client, VariableState, VariablesState, with_inbox}
 use Rattle.moos_db.specs.Places.{inboxes_after, IsDb, IsLog, LogState, place_at, post_in}
 use Rattle.moos_db.specs.Registering.{catch_number, catch_post, StandsAt}
 use Rattle.moos_db.specs.Tables.{GetsNumber, latest_post_of, number_of, Row}
@@ -208,20 +210,20 @@ abbrev subscription : ℕ → SubscriptionState
 subscription stamp = record { client = 0; reg = all; made = 1; last = Some stamp }
 
 abbrev variable : List SubscriptionState → VariableState
-variable subscriptions = record { name = codes "A"; latest = Some 2; subscriptions = subscriptions; room = 0 }
+variable subscriptions = record { name = codes "A"; latest = Some 2; recipients = true ∷ false ∷ []; subscriptions = subscriptions; room = 0 }
 
 abbrev variables : List SubscriptionState → VariablesState
 variables subscriptions = record { all = variable subscriptions ∷ []; numbers = row (codes "A") 0 ∷ []; noted = 0 ∷ 0 ∷ 0 ∷ [] }
 
 abbrev first : ClientState
-first = record { lives = record { reg = all; made = 1 } ∷ []; mailed = 0 ∷ 2 ∷ []; waits = []; spare = 0; room = 0 }
+first = record { lives = record { reg = all; made = 1 } ∷ []; waits = []; spare = 0; room = 0 }
 
 abbrev second : ClientState
-second = record { lives = []; mailed = []; waits = []; spare = 0; room = 0 }
+second = record { lives = []; waits = []; spare = 0; room = 0 }
 
 are_clients : (number : ℕ) (one : ClientState) → slice_get (first ∷ second ∷ []) number ≡ Some one → IsClient (inboxes_after names fetched number) one
-are_clients = each_of (λ number one. IsClient (inboxes_after names fetched number) one) first (second ∷ []) (record { lives = refl; mailed = refl; waits = refl })
-    (each_of (λ number one. IsClient (inboxes_after names fetched (suc number)) one) second [] (record { lives = refl; mailed = refl; waits = refl })
+are_clients = each_of (λ number one. IsClient (inboxes_after names fetched number) one) first (second ∷ []) (record { lives = refl; waits = refl })
+    (each_of (λ number one. IsClient (inboxes_after names fetched (suc number)) one) second [] (record { lives = refl; waits = refl })
     (each_of_none (λ number one. IsClient (inboxes_after names fetched (suc (suc number))) one)))
 
 is_heard : IsHeardBy 2 (inboxes_after names fetched) (variable (subscription 110 ∷ []))
@@ -245,6 +247,15 @@ are_known zero below = All-cons (HasKnown (row (codes "A") 0 ∷ [])) (record { 
 are_known (suc zero) below = All-nil (HasKnown (row (codes "A") 0 ∷ []))
 are_known (suc (suc client)) below = absurd (omega (arith, below))
 
+-- the latest post of A was mailed to client 0 alone
+have_got : HasRecipients 2 (inboxes_after names fetched) (variable (subscription 110 ∷ []))
+have_got = record { each = refl; mailed = by_mail }
+  where
+    by_mail : (client number : ℕ) → client < 2 → Some 2 ≡ Some number → is_recipient (true ∷ false ∷ []) client ≡ was_mailed number (inboxes_after names fetched client).mailed
+    by_mail zero number below latest = ap (λ n. was_mailed n (inboxes_after names fetched 0).mailed) (same_Some 2 number latest)
+    by_mail (suc zero) number below latest = ap (λ n. was_mailed n (inboxes_after names fetched 1).mailed) (same_Some 2 number latest)
+    by_mail (suc (suc client)) number below latest = absurd (omega (arith, below))
+
 is_db : IsDb names journal (variables (subscription 110 ∷ [])) (first ∷ second ∷ [])
 is_db = record {
   kept = record {
@@ -255,6 +266,7 @@ is_db = record {
       heard = record {
         heard = All-cons (IsHeardBy 2 (inboxes_after names fetched)) (variable (subscription 110 ∷ [])) [] is_heard (All-nil (IsHeardBy 2 (inboxes_after names fetched)));
         latest = All-cons (HasLatest (posts_of fetched)) (variable (subscription 110 ∷ [])) [] refl (All-nil (HasLatest (posts_of fetched)));
+        recipients = All-cons (HasRecipients 2 (inboxes_after names fetched)) (variable (subscription 110 ∷ [])) [] have_got (All-nil (HasRecipients 2 (inboxes_after names fetched)));
         known = are_known;
       };
     };
@@ -263,6 +275,10 @@ is_db = record {
   lettered = refl;
   given = given;
 }
+
+-- The marks of an earlier post of A, which was mailed to nobody, are not those of the latest.
+marks_kept : HasRecipients 2 (inboxes_after names fetched) (record (variable []) { recipients = false ∷ false ∷ [] }) → ⊥
+marks_kept has = false≢true (has.mailed 0 2 (omega arith) refl)
 
 -- It is no such database where the fetch's letters lack one, a client isn't kept, nobody hears A, the stamp of an earlier post is
 -- kept, or the variable of a post isn't noted.

@@ -126,6 +126,7 @@ module _ (client : ℕ) (live : Registration) (inboxes : ℕ → Inbox) where
       record {
         name = ap (λ (v : VariableState). v.name) same;
         latest = ap (λ (v : VariableState). v.latest) same;
+        recipients = ap (λ (v : VariableState). v.recipients) same;
         heard = λ heard. subst (IsHeardBy clients (with_lives client more inboxes)) (sym same) (record {
           each = at-each client made inboxes (λ n inbox. n < clients → of_client n (variable.subscriptions ++ fresh_subscriptions client variable.name (live ∷ [])) ≡ subscriptions_of n variable.name inbox.lives)
               (λ low. own-more client variable.subscriptions own ∙ ap (λ front. front ++ fresh_subscriptions client variable.name (live ∷ [])) (heard.each client low) ∙ sym (subscriptions-more client variable.name (inboxes client).lives live))
@@ -143,7 +144,6 @@ module _ (client : ℕ) (live : Registration) (inboxes : ℕ → Inbox) where
       record {
         clients = AreClients-set client made inboxes states other (record {
           lives = ap (λ (c : ClientState). c.lives) change ∙ ap (λ lives. lives ++ live ∷ []) is.lives ∙ sym (map-append registration_of (inboxes client).lives (new_live live.made live.reg ∷ []));
-          mailed = ap (λ (c : ClientState). c.mailed) change ∙ is.mailed;
           waits = ap (λ (c : ClientState). c.waits) change ∙ is.waits;
         }) are.clients;
         heard =
@@ -155,6 +155,7 @@ module _ (client : ℕ) (live : Registration) (inboxes : ℕ → Inbox) where
                   let so : IsAddedTo (heard_through client live 0 (variable_names before.all)) n was is = added.same n was is first last in
                   variable-made (length states) was is below (so.same ∙ ap (λ subscriptions. record was { subscriptions = was.subscriptions ++ subscriptions; room = is.room }) (through-named client live before.all n was first));
             })
+            (at-each client made inboxes (λ n inbox. inbox.mailed ≡ (inboxes n).mailed) refl (λ n apart. refl))
             (subst (AreKnown (length states) (with_lives client more inboxes)) (sym numbers)
             (at-each client made inboxes (λ n inbox. n < length states → All (HasKnown before.numbers) inbox.lives)
             (λ low. All-push (HasKnown before.numbers) (inboxes client).lives (new_live live.made live.reg) (are.heard.known client low) (λ var none. refl)) (λ n apart. are.heard.known n)))

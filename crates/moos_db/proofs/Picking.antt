@@ -5,7 +5,6 @@ use Rattle.std.proofs.lemmas.Bool.{and_left, and_right, cases_Bool, eq-eqb, eqb-
 use Rattle.std.proofs.lemmas.List.{length-drop}
 use Rattle.std.proofs.lemmas.Option.{same_Some, slice_get_within}
 use Rattle.std.proofs.lemmas.Slice.Eq.{bytes_eq-Decides}
-use Rattle.moos_mail.specs.Mailboxes.{is_one_of}
 use Rattle.moos_mail.proofs.Lists.{list_any-alike, list_any-map}
 use Rattle.moos_post.specs.declared.value.Post.{Post}
 use Rattle.moos_post.specs.Delivery.{after_catching_up, catches_up, Inbox, is_latest, is_new_for, Live, was_mailed, with_came, with_caught_up}
@@ -14,6 +13,10 @@ use Rattle.moos_post.specs.Patterns.{matches}
 use Rattle.moos_db.specs.Registering.{catch_number, catch_post}
 use Rattle.moos_db.specs.Tables.{latest_post_from, latest_post_of}
 use Rattle.moos_db.proofs.Hearing.{passed}
+
+-- the number is one of these
+abbrev pub is_one_of : ℕ → List ℕ → Bool
+is_one_of number numbers = list_any (λ one. one == number) numbers
 
 -- the post with this number is the latest of its variable
 pub record IsLatestOf (var : List ℕ) (posts : List Post) (number : ℕ) : Type 0 where

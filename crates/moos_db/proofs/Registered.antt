@@ -1,5 +1,5 @@
 -- What is kept after a call that registers.
-use Rattle.std.proofs.Common.{◌≡◌, ◌∙◌, ◌<◌, ◌+◌, ◌==◌, ◌&&◌, ◌||◌, ℕ, zero, suc, Bool, true, false, not, List, [], ◌∷◌, ◌++◌, length, map, fold, Option, None, Some, get_or, option_and_then, option_map, slice_get, refl, ap, sym, subst, arith, inl, inr, if◌then◌else◌}
+use Rattle.std.proofs.Common.{◌≡◌, ◌∙◌, ◌<◌, ◌+◌, ◌==◌, ◌&&◌, ◌||◌, ℕ, zero, suc, Bool, true, false, not, List, [], ◌∷◌, ◌++◌, length, map, fold, drop, Option, None, Some, get_or, option_and_then, option_map, slice_get, refl, ap, sym, subst, arith, inl, inr, if◌then◌else◌}
 use Rattle.std.specs.List.{All, Contains, list_any, slice_index}
 use Rattle.std.specs.List.Sorted.{IsStrictlyIncreasing}
 use Rattle.std.specs.Option.{option_to_list}
@@ -10,7 +10,6 @@ use Rattle.std.proofs.lemmas.List.Concat.{flat_map-append}
 use Rattle.std.proofs.lemmas.List.Elements.{All-cons, All-filter, All-map, All-nil, All-weaker}
 use Rattle.std.proofs.lemmas.List.Folds.{Any-from_list_any, list_any-append, list_any_at, list_any_none}
 use Rattle.std.proofs.lemmas.Option.{get_or_from_slice_get, none-some, same_Some, slice_get-get_or, slice_get-map, slice_get_within}
-use Rattle.moos_mail.specs.Mailboxes.{is_one_of}
 use Rattle.moos_mail.specs.Registrations.{live_at, live_before, MadeReg}
 use Rattle.moos_mail.specs.Sentences.{posts_before}
 use Rattle.moos_mail.proofs.Coming.{AllMade}
@@ -22,20 +21,20 @@ use Rattle.moos_mail.proofs.Standing.{new_live}
 use Rattle.moos_post.specs.declared.entry.Call.TheVariants.{Register}
 use Rattle.moos_post.specs.declared.registration.Reg.{Reg}
 use Rattle.moos_post.specs.declared.value.Post.{Post}
-use Rattle.moos_post.specs.Delivery.{Inbox, inbox_of, Live, with_own, with_reg, without_patterns}
+use Rattle.moos_post.specs.Delivery.{Inbox, inbox_of, is_latest, Live, with_own, with_reg, without_patterns}
 use Rattle.moos_post.specs.History.{History, posts_of}
 use Rattle.moos_post.specs.Patterns.{matches}
 use Rattle.moos_db.specs.declared.registration.Registration.{Registration}
 use Rattle.moos_db.specs.Clients.{ClientState, is_with_patterns, registration_of}
 use Rattle.moos_db.specs.Subscriptions.{AreKeptAs, AreKnown, AreNoted, HasLatest, IsHeardBy, VariableState, VariablesState, fresh_subscription, name_at, with_inbox, with_lives}
 use Rattle.moos_db.specs.Places.{AreKept, inboxes_after}
-use Rattle.moos_db.specs.Registering.{AreEach, AreRoomier, HasRoomThrough, Heard, IsPrepared, IsRoomier, PreparedState, StandsAt, catch_number, heard_through, heard_where, latest_at, latest_heard, latest_prepared, variable_names, prepared_of, with_prepared}
+use Rattle.moos_db.specs.Registering.{AreEach, AreRoomier, HasRoomThrough, Heard, IsLatestPost, IsPrepared, IsRoomier, PreparedState, StandsAt, catch_number, heard_through, heard_where, latest_at, latest_heard, latest_prepared, variable_names, prepared_of, with_prepared}
 use Rattle.moos_db.specs.Tables.{latest_post_of}
 use Rattle.moos_db.proofs.AfterCalls.{AreKept-quiet}
 use Rattle.moos_db.proofs.AfterRegistering.{roomier-names}
-use Rattle.moos_db.proofs.Caught.{noted-length}
+use Rattle.moos_db.proofs.Caught.{noted-length, noted-name}
 use Rattle.moos_db.proofs.Changes.{all-at, all-same, AreNoted-names, at-client, at-others, heard-changed, named-at, names-each}
-use Rattle.moos_db.proofs.Picking.{ArePicked, IsAbove, IsLatestOf, catching-picked, found-is-latest, is_made, latest-is-found}
+use Rattle.moos_db.proofs.Picking.{ArePicked, IsAbove, IsLatestOf, catching-picked, found-is-latest, is_made, is_one_of, latest-is-found}
 
 -- more room
 
@@ -56,10 +55,11 @@ AreKept-roomier names history before after states roomier are =
                   record {
                     name = ap (λ (v : VariableState). v.name) same;
                     latest = ap (λ (v : VariableState). v.latest) same;
+                    recipients = ap (λ (v : VariableState). v.recipients) same;
                     heard = λ heard. subst (IsHeardBy (length states) inboxes) (sym same) (record { each = heard.each; within = heard.within });
                   };
             })
-            (subst (AreKnown (length states) inboxes) (sym roomier.numbers) are.kept.heard.known) are.kept.heard;
+            (λ client. refl) (subst (AreKnown (length states) inboxes) (sym roomier.numbers) are.kept.heard.known) are.kept.heard;
       };
       noted = AreNoted-names (map (λ (post : Post). post.var) (posts_of history)) before after
           (names-each IsRoomier before.all after.all (λ one other is. ap (λ (v : VariableState). v.name) is.same) roomier.all) roomier.noted are.noted;
@@ -169,14 +169,6 @@ made-before names history client =
     all [] under = All-nil (λ (live : Live). live.made < length history)
     all (made ∷ mades) under = All-cons (λ (live : Live). live.made < length history) (live_at names client history (posts_before history (length history)) made)
         (map (live_at names client history (posts_before history (length history))) mades) under.0 (all mades under.1)
-
--- which variable a post is of
-noted-name : (vars : List (List ℕ)) (variables : VariablesState) (number place : ℕ) (var : List ℕ) → AreNoted vars variables → slice_get variables.noted number ≡ Some place → slice_get vars number ≡ Some var →
-    name_at variables.all place ≡ Some var
-noted-name vars variables number place var are noted there =
-    same_Some (name_at variables.all place) (Some var)
-    (sym (slice_get-map (name_at variables.all) variables.noted number ∙ ap (option_map (name_at variables.all)) noted)
-    ∙ ap (λ list. slice_get list number) are ∙ slice_get-map (λ (v : List ℕ). Some v) vars number ∙ ap (option_map (λ (v : List ℕ). Some v)) there)
 
 -- each number is that of the latest post of a variable
 latest-there : (variables : List VariableState) (place number : ℕ) → latest_at variables place ≡ Some number → (v : VariableState) × (slice_get variables place ≡ Some v) × (v.latest ≡ Some number)
@@ -310,3 +302,12 @@ latest-below posts variables all latest latests only = λ k d below.
     let is : (var : List ℕ) × IsLatestOf var posts number
     = prepared-latest posts variables number all latests (only number (k, below, get_or_from_slice_get latest k number number (slice_get-get_or latest k d below))) in
     slice_get_within posts number is.1.post is.1.there
+
+pub latest-posts : (posts : List Post) (variables : List VariableState) (all : List PreparedState) (latest : List ℕ) → All (HasLatest posts) variables →
+    ((number : ℕ) → Contains latest number → Contains (latest_prepared variables all) number) → All (IsLatestPost posts) latest
+latest-posts posts variables all latest latests only = λ k d below post there.
+    let number : ℕ = get_or latest k d in
+    let is : (var : List ℕ) × IsLatestOf var posts number
+    = prepared-latest posts variables number all latests (only number (k, below, get_or_from_slice_get latest k number number (slice_get-get_or latest k d below))) in
+    latest-is-found posts number post there
+    (ap (λ (one : Post). is_latest one (drop (suc number) posts)) (same_Some post is.1.post (sym there ∙ is.1.there)) ∙ is.1.latest)

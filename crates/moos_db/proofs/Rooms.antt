@@ -68,7 +68,6 @@ alike-ready inboxes posts variables before after alike ready = record {
         let stands = ready.stand.clients number here.0 here.1 in
         record {
           lives = ap (λ (one : ClientState). one.lives) is ∙ stands.lives;
-          mailed = ap (λ (one : ClientState). one.mailed) is ∙ stands.mailed;
           waits = ap (λ (one : ClientState). one.waits) is ∙ stands.waits;
         };
     heard = subst (λ n. AreHeard n inboxes posts variables) (sym alike.each) ready.stand.heard;

@@ -72,10 +72,11 @@ IsDb-new names clients few each blank = record {
     kept = record {
       clients = λ number client there.
           let is : IsBlank client = subst IsBlank (get_or_from_slice_get clients number client client there) (blank number client (slice_get_within clients number client there)) in
-          record { lives = is.lives; mailed = is.mailed; waits = is.waits };
+          record { lives = is.lives; waits = is.waits };
       heard = record {
         heard = λ k d below. absurd (omega arith);
         latest = λ k d below. absurd (omega arith);
+        recipients = λ k d below. absurd (omega arith);
         known = λ client below. λ k d none. absurd (omega arith);
       };
     };

@@ -77,9 +77,11 @@ module _ (client : ℕ) (var source : List ℕ) (inboxes : ℕ → Inbox) where
             record {
               name = withdrawn-name client var source one other gone;
               latest = ap (λ (v : VariableState). v.latest) (withdrawn-still client var source one other gone).same;
+              recipients = ap (λ (v : VariableState). v.recipients) (withdrawn-still client var source one other gone).same;
               heard = heard-withdrawn clients one other gone;
             };
       })
+      (at-each client left inboxes (λ n inbox. inbox.mailed ≡ (inboxes n).mailed) refl (λ n apart. refl))
       (subst (AreKnown clients now) (sym is.numbers)
       (at-each client left inboxes (λ n inbox. n < clients → All (HasKnown variables.numbers) inbox.lives)
       (λ low. All-filter (λ live. not (is_with_patterns var source (registration_of live))) (HasKnown variables.numbers) (inboxes client).lives (are.known client low)) (λ n apart. are.known n)))
@@ -93,7 +95,6 @@ module _ (client : ℕ) (var source : List ℕ) (inboxes : ℕ → Inbox) where
       record {
         clients = AreClients-set client left inboxes clients other (record {
           lives = ap (without_registration var source) is.lives ∙ filter-map (λ live. not (is_with_patterns var source live)) registration_of (inboxes client).lives;
-          mailed = is.mailed;
           waits = is.waits;
         }) are.clients;
         heard = subst (λ n. AreHeard n now posts more) (sym (length-set clients client other)) (AreHeard-withdrawn (length clients) posts variables more gone are.heard);

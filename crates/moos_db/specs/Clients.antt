@@ -1,16 +1,13 @@
 -- What is kept of one client beside who hears what.
-use Rattle.std.specs.Prelude.{◌≡◌, ℕ, Bool, ◌&&◌, not, if◌then◌else◌, List, ◌++◌, ◌∷◌, [], map, filter, bytes_eq, slice_get, Some}
+use Rattle.std.specs.Prelude.{◌≡◌, ℕ, Bool, ◌&&◌, not, List, [], map, filter, bytes_eq, slice_get, Some}
 use Rattle.std.specs.List.{list_any}
 use Rattle.moos_db.specs.declared.registration.Registration.{Registration}
 use Rattle.moos_post.specs.Delivery.{Inbox, Live, waiting}
-use Rattle.moos_mail.specs.Mailboxes.{in_rising_order, is_one_of, with_number}
 
--- what the database keeps of a client: its live registrations in the order in which they were made, the numbers of all posts ever
--- mailed to it in rising order, those that wait for its next fetch, how many more can be mailed without memory, and how many more
--- registrations made
+-- what the database keeps of a client: its live registrations in the order in which they were made, the numbers of the posts that
+-- wait for its next fetch, how many more can be mailed without memory, and how many more registrations made
 pub record ClientState : Type 0 where
   pub lives : List Registration
-  pub mailed : List ℕ
   pub waits : List ℕ
   pub spare : ℕ
   pub room : ℕ
@@ -31,15 +28,9 @@ has_registration var source lives = list_any (is_with_patterns var source) lives
 abbrev pub without_registration : List ℕ → List ℕ → List Registration → List Registration
 without_registration var source lives = filter (λ live. not (is_with_patterns var source live)) lives
 
--- the post with this number is mailed, unless it was before
-abbrev pub mailed_once : ℕ → ClientState → ClientState
-mailed_once number client =
-    if is_one_of number client.mailed then client else record client { mailed = with_number number client.mailed; waits = client.waits ++ number ∷ [] }
-
 -- what is kept of the client is its inbox of the delivery rule, without the posts themselves
 pub record IsClient (inbox : Inbox) (client : ClientState) : Type 0 where
   pub lives : client.lives ≡ map registration_of inbox.lives
-  pub mailed : client.mailed ≡ in_rising_order (map (λ one. one.number) inbox.mailed)
   pub waits : client.waits ≡ waiting inbox
 
 -- each client is kept as its inbox says
@@ -49,5 +40,4 @@ AreClients inboxes clients = (number : ℕ) (client : ClientState) → slice_get
 -- nothing happened for the client
 pub record IsBlank (client : ClientState) : Type 0 where
   pub lives : client.lives ≡ []
-  pub mailed : client.mailed ≡ []
   pub waits : client.waits ≡ []

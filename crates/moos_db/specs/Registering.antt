@@ -8,6 +8,7 @@ use Rattle.moos_post.specs.Patterns.{matches}
 use Rattle.moos_db.specs.declared.registration.Registration.{Registration}
 use Rattle.moos_db.specs.Clients.{ClientState}
 use Rattle.moos_db.specs.Subscriptions.{SubscriptionState, IsNumbering, VariableState, VariablesState, caught_at, fresh_subscription, is_new_at}
+use Rattle.moos_db.specs.Tables.{latest_post_of}
 
 -- who is to hear a variable, with the variable's number
 abbrev pub Heard : Type 0
@@ -127,14 +128,22 @@ catch_post names number inbox (Some post) =
 abbrev pub catch_number : List (List ℕ) → List Post → Inbox → ℕ → Inbox
 catch_number names posts inbox number = catch_post names number inbox (slice_get posts number)
 
--- the post of this stamp and from the source of the variable with this number caught up with the client's registrations made at this
--- entry; this tells whether there was one
+-- the post with this number, if there is one, is the latest of its variable
+abbrev pub IsLatestPost : List Post → ℕ → Type 0
+IsLatestPost posts number = (post : Post) → slice_get posts number ≡ Some post → latest_post_of post.var posts ≡ Some number
+
+-- the latest post of the variable with this number, of this stamp and from the source, caught up with the client's registrations made
+-- at this entry; this tells whether there was one
 pub record IsCaught (client made stamp : ℕ) (source : List ℕ) (place : ℕ) (answer : Bool) (before after : VariablesState) : Type 0 where
   pub variable : VariableState
   pub numbering : IsNumbering before.all before.numbers
   pub there : slice_get before.all place ≡ Some variable
   pub catches : answer ≡ list_any (is_new_at client made source) variable.subscriptions
   pub room : ℕ
-  pub all : after.all ≡ slice_set before.all place (record variable { subscriptions = map (caught_at client made stamp source) variable.subscriptions; room = room })
+  pub all : after.all ≡ slice_set before.all place (record variable {
+    recipients = if answer then slice_set variable.recipients client true else variable.recipients;
+    subscriptions = map (caught_at client made stamp source) variable.subscriptions;
+    room = room;
+  })
   pub numbers : after.numbers ≡ before.numbers
   pub noted : after.noted ≡ before.noted

@@ -1,13 +1,13 @@
 -- Who hears a variable: of each client the live registrations whose pattern matches it, each with the stamp of the last post of the
 -- variable that came through.
-use Rattle.std.specs.Prelude.{◌≡◌, ◌<◌, ◌≤◌, ◌+◌, ◌⊎◌, ℕ, Bool, ◌&&◌, ◌==◌, if◌then◌else◌, List, [], ◌∷◌, ◌++◌, length, map, filter, Option, None, Some, option_map, unwrap_or, bytes_eq, slice_get, slice_set, take}
+use Rattle.std.specs.Prelude.{◌≡◌, ◌<◌, ◌≤◌, ◌+◌, ◌⊎◌, ℕ, Bool, true, false, ◌&&◌, ◌==◌, if◌then◌else◌, List, [], ◌∷◌, ◌++◌, length, map, filter, Option, None, Some, option_map, unwrap_or, bytes_eq, slice_get, slice_index_or, slice_set, take}
 use Rattle.std.specs.List.{All, list_any}
 use Rattle.moos_post.specs.declared.registration.Reg.{Reg}
 use Rattle.moos_post.specs.declared.value.Post.{Post}
-use Rattle.moos_post.specs.Delivery.{Inbox, is_past, last_stamp, Live}
+use Rattle.moos_post.specs.Delivery.{Inbox, is_past, last_stamp, Live, was_mailed}
 use Rattle.moos_post.specs.Patterns.{matches}
 use Rattle.moos_db.specs.declared.registration.Registration.{Registration}
-use Rattle.moos_db.specs.Clients.{AreClients, ClientState, mailed_once}
+use Rattle.moos_db.specs.Clients.{AreClients, ClientState}
 use Rattle.moos_db.specs.Tables.{GetsNumber, latest_post_of, number_of, Row}
 
 -- a live registration of a client that hears a variable, the entry that made it, and the stamp of the last post of the variable that
@@ -18,10 +18,12 @@ pub record SubscriptionState : Type 0 where
   pub made : ℕ
   pub last : Option ℕ
 
--- a variable, the number of its latest post, if there is one, who hears it, and how many more can be added to those without memory
+-- a variable, the number of its latest post, if there is one, of each client by number whether that post was mailed to it, who hears
+-- the variable, and how many more can be added to those without memory
 pub record VariableState : Type 0 where
   pub name : List ℕ
   pub latest : Option ℕ
+  pub recipients : List Bool
   pub subscriptions : List SubscriptionState
   pub room : ℕ
 
@@ -114,19 +116,32 @@ AreKnown clients inboxes numbers = (client : ℕ) → client < clients → All (
 abbrev pub HasLatest : List Post → VariableState → Type 0
 HasLatest posts variable = variable.latest ≡ latest_post_of variable.name posts
 
--- Each variable is heard as the inboxes say, its latest post is that among these, and none came through but of these variables.
+-- the client with this number is one of them
+abbrev pub is_recipient : List Bool → ℕ → Bool
+is_recipient recipients client = slice_index_or recipients client false
+
+-- a variable's latest post, if there is one, was mailed to just these of the clients, as their inboxes say
+pub record HasRecipients (clients : ℕ) (inboxes : ℕ → Inbox) (variable : VariableState) : Type 0 where
+  pub each : length variable.recipients ≡ clients
+  pub mailed : (client number : ℕ) → client < clients → variable.latest ≡ Some number → is_recipient variable.recipients client ≡ was_mailed number (inboxes client).mailed
+
+-- Each variable is heard as the inboxes say, its latest post is that among these and was mailed as they say, and none came through but
+-- of these variables.
 pub record AreHeard (clients : ℕ) (inboxes : ℕ → Inbox) (posts : List Post) (variables : VariablesState) : Type 0 where
   pub heard : All (IsHeardBy clients inboxes) variables.all
   pub latest : All (HasLatest posts) variables.all
+  pub recipients : All (HasRecipients clients inboxes) variables.all
   pub known : AreKnown clients inboxes variables.numbers
 
 -- the variables with this one added, which the clients hear by their registrations, through which nothing of it came
 pub record IsAdded (clients : List ClientState) (var : List ℕ) (before after : VariablesState) : Type 0 where
+  pub recipients : List Bool
   pub subscriptions : List SubscriptionState
   pub room : ℕ
+  pub marked : length recipients ≡ length clients
   pub each : (client : ℕ) → client < length clients → of_client client subscriptions ≡ fresh_subscriptions client var (lives_at clients client)
   pub within : All (λ subscription. subscription.client < length clients) subscriptions
-  pub all : after.all ≡ before.all ++ record { name = var; latest = None; subscriptions = subscriptions; room = room } ∷ []
+  pub all : after.all ≡ before.all ++ record { name = var; latest = None; recipients = recipients; subscriptions = subscriptions; room = room } ∷ []
   pub numbers : GetsNumber var (length before.all) before.numbers after.numbers
   pub noted : after.noted ≡ before.noted
 
@@ -148,9 +163,9 @@ abbrev pub HaveLetterRoom : List ClientState → VariablesState → ℕ → ℕ 
 HaveLetterRoom clients variables from more = (post number : ℕ) (variable : VariableState) → from ≤ post → slice_get variables.noted post ≡ Some number →
     slice_get variables.all number ≡ Some variable → All (HasRoom clients more) variable.subscriptions
 
--- the client after a post, which is mailed if this says so
+-- the client after the post with this number, which is mailed if this says so
 abbrev pub mailed_if : Bool → ℕ → ClientState → ClientState
-mailed_if mails number client = if mails then mailed_once number client else client
+mailed_if mails number client = if mails then record client { waits = client.waits ++ number ∷ [] } else client
 
 -- the clients after the post with this number, of this stamp and from the source, which is mailed to each at one of whose
 -- subscriptions it is due
@@ -159,6 +174,25 @@ pub record AreMailed (number stamp : ℕ) (source : List ℕ) (subscriptions : L
   pub mail : (client : ℕ) (one other : ClientState) → slice_get before client ≡ Some one → slice_get after client ≡ Some other →
       other ≡ record (mailed_if (list_any (hears_due stamp source) (of_client client subscriptions)) number one) { spare = other.spare }
   pub room : (client : ℕ) (one other : ClientState) → slice_get before client ≡ Some one → slice_get after client ≡ Some other → one.spare ≤ other.spare + 1
+
+-- these are the recipients of such a post among so many clients
+pub record AreRecipients (stamp : ℕ) (source : List ℕ) (subscriptions : List SubscriptionState) (clients : ℕ) (recipients : List Bool) : Type 0 where
+  pub each : length recipients ≡ clients
+  pub due : (client : ℕ) → client < clients → is_recipient recipients client ≡ list_any (hears_due stamp source) (of_client client subscriptions)
+
+-- the post with this number is mailed to the client, which is one of its recipients from then on
+pub record IsMailedTo (client number : ℕ) (recipients marked : List Bool) (clients others : List ClientState) : Type 0 where
+  pub one : ClientState
+  pub there : slice_get clients client ≡ Some one
+  pub other : ClientState
+  pub mailed : other ≡ record (mailed_if true number one) { spare = other.spare }
+  pub room : one.spare ≤ other.spare + 1
+  pub all : others ≡ slice_set clients client other
+  pub mark : marked ≡ slice_set recipients client true
+
+-- of each variable there is a mark for each of so many clients
+abbrev pub HaveMarks : ℕ → List VariableState → Type 0
+HaveMarks clients variables = All (λ variable. length variable.recipients ≡ clients) variables
 
 -- the clients and who hears the variables are just what the inboxes say, if these are the posts so far
 pub record AreKeptAs (inboxes : ℕ → Inbox) (posts : List Post) (variables : VariablesState) (all : List ClientState) : Type 0 where
@@ -181,10 +215,12 @@ pub record IsPosted (number stamp : ℕ) (source : List ℕ) (before after : Var
   pub found : slice_get before.noted number ≡ Some at
   pub there : slice_get before.all at ≡ Some variable
   pub room : ℕ
-  pub all : after.all ≡ slice_set before.all at (record variable { latest = Some number; subscriptions = map (after_hearing stamp source) variable.subscriptions; room = room })
+  pub recipients : List Bool
+  pub all : after.all ≡ slice_set before.all at (record variable { latest = Some number; recipients = recipients; subscriptions = map (after_hearing stamp source) variable.subscriptions; room = room })
   pub numbers : after.numbers ≡ before.numbers
   pub noted : after.noted ≡ before.noted
   pub mailed : AreMailed number stamp source variable.subscriptions clients others
+  pub marked : AreRecipients stamp source variable.subscriptions (length clients) recipients
 
 -- all is as the inboxes say, if these are the posts so far, whose variables are noted first
 pub record AreReady (inboxes : ℕ → Inbox) (posts : List Post) (variables : VariablesState) (all : List ClientState) : Type 0 where

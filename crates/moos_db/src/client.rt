@@ -1,6 +1,5 @@
 // A client of the database: its registrations and its mailbox.
-ghost use Rattle.std.specs.Prelude.{◌≡◌, ◌<◌, ◌≤◌, ◌+◌, ◌++◌, ◌∷◌, [], false, length, map, true, vec_capacity, vec_len, IfOk, OnErr, OnOk};
-ghost use Rattle.moos_mail.specs.Mailboxes.{is_one_of};
+ghost use Rattle.std.specs.Prelude.{◌≡◌, ◌<◌, ◌≤◌, ◌+◌, ◌++◌, ◌∷◌, [], length, map, vec_capacity, vec_len, IfOk, OnErr, OnOk};
 ghost use Rattle.std.specs.List.{All, list_any};
 ghost use Rattle.moos_db.specs.Clients.{IsBlank, is_with_patterns, without_registration};
 
@@ -55,7 +54,6 @@ impl Model for Client {
 
     ghost view = { λ client. record {
       lives = map (λ live. live.value) client.lives.items;
-      mailed = client.mailbox.mailed;
       waits = client.mailbox.waiting;
       spare = client.mailbox.spare;
       room = vec_capacity client.lives - vec_len client.lives;
@@ -63,7 +61,7 @@ impl Model for Client {
 }
 
 impl Client {
-    ghost use Rattle.moos_db.specs.Clients.{has_registration, mailed_once, without_registration};
+    ghost use Rattle.moos_db.specs.Clients.{has_registration, without_registration};
 
     // The client for which nothing happened.
     pub fn new(alloc: Global) -> Client
@@ -144,22 +142,12 @@ impl Client {
         self.lives.push_reserved(live);
     }
 
-    // Whether the post with this number was ever mailed to it.
-    pub fn was_mailed(&self, number: u64) -> bool
-        ensures { result ≡ is_one_of number self.now.mailed }
-    {
-        self.mailbox.mailed(number)
-    }
-
-    // The post with this number is mailed to it, unless it was before.
+    // The post with this number is mailed to it, for which there is room.
     pub fn mail(&mut self, number: u64)
-        requires { is_one_of number self.old.mailed ≡ false → 1 ≤ self.old.spare }
-        ensures once { self.new ≡ record (mailed_once number self.old) { spare = self.new.spare } }
+        requires { 1 ≤ self.old.spare }
+        ensures mailed { self.new ≡ record self.old { waits = self.old.waits ++ number ∷ []; spare = self.new.spare } }
         ensures room { self.old.spare ≤ self.new.spare + 1 }
-        ensures again { is_one_of number self.old.mailed ≡ true → self.new ≡ self.old }
     {
-        if !self.mailbox.mailed(number) {
-            self.mailbox.append(number);
-        }
+        self.mailbox.append(number);
     }
 }

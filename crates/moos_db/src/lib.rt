@@ -4,10 +4,10 @@
 //! call adds its entry or finds no memory and changes nothing; what a fetch gives is the delivery rule's mail of the
 //! history before it, the rule that is in `moos_post`'s specs/Delivery. Nothing else tells what mail a client gets.
 //!
-//! Read `table` first, a number for each variable. Then `registration`, what a client registered for, `subscription`, a registration that hears
-//! a variable, `client`, what is kept of one client, and `variables`, who hears each variable; `log`, what is kept of the history;
-//! `posting`, `registering` and `calls`, what each call does, `mail`, what a fetch gives, `db`, `journal`, how a lock sees a `Db`, and
-//! last `run`, which makes a list of calls.
+//! Read `table` first, a number for each variable. Then `registration`, what a client registered for, `subscription`, a registration
+//! that hears a variable, `client`, what is kept of one client, `recipients`, to whom the latest post of a variable was mailed, and
+//! `variables`, who hears each variable; `log`, what is kept of the history; `posting`, `registering` and `calls`, what each call does,
+//! `mail`, what a fetch gives, `db`, `journal`, how a lock sees a `Db`, and last `run`, which makes a list of calls.
 #![tactic(auto)]
 
 mod calls;
@@ -17,6 +17,7 @@ mod journal;
 mod log;
 mod mail;
 mod posting;
+mod recipients;
 mod registering;
 mod registration;
 mod run;

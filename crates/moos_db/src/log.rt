@@ -193,7 +193,6 @@ impl Log {
         }) }
         ensures same { OnErr result (self.new ≡ self.old) }
         ensures waiting { mailbox.new.waiting ≡ (if is_ok result then [] else mailbox.old.waiting) }
-        ensures mailed { mailbox.new.mailed ≡ mailbox.old.mailed }
     {
         push_entry(
             &mut self.entries,

@@ -8,7 +8,7 @@ ghost use Rattle.moos_post.specs.History.{posts_of};
 ghost use Rattle.moos_db.specs.Clients.{ClientState};
 ghost use Rattle.moos_db.specs.Subscriptions.{AreKeptAs, AreNoted, with_inbox, with_lives};
 ghost use Rattle.moos_db.specs.Places.{AreKept};
-ghost use Rattle.moos_db.specs.Registering.{AreRoomier, AreStill, HasRoomThrough, IsPrepared, catch_number, latest_heard, latest_prepared, variable_names, prepared_of, StandsAt, with_prepared};
+ghost use Rattle.moos_db.specs.Registering.{AreRoomier, AreStill, HasRoomThrough, IsLatestPost, IsPrepared, catch_number, latest_heard, latest_prepared, variable_names, prepared_of, StandsAt, with_prepared};
 
 use crate::client::Client;
 use crate::log::Log;
@@ -203,6 +203,7 @@ fn catch_one(
 )
     requires within { client < length clients.old.items }
     requires below { number < length (posts_of log.now.entries) }
+    requires latest { IsLatestPost (posts_of log.now.entries) number }
     requires noted { AreNoted (map (λ post. post.var) (posts_of log.now.entries)) variables.old }
     requires room { (kept : ClientState) → slice_get clients.old.items client ≡ Some kept → 1 ≤ kept.spare }
     ensures kept { (inboxes : ℕ → Inbox) → StandsAt made (inboxes client) → AreKeptAs inboxes (posts_of log.now.entries) variables.old clients.old.items →
@@ -211,7 +212,7 @@ fn catch_one(
     ensures each { length clients.new.items ≡ length clients.old.items }
     ensures room { (one other : ClientState) → slice_get clients.old.items client ≡ Some one → slice_get clients.new.items client ≡ Some other → one.spare ≤ other.spare + 1 }
 {
-    if clients[client as usize].was_mailed(number) {
+    if variables.was_mailed(client, number) {
         return;
     }
     let origin = log.origin(number as usize);
@@ -233,6 +234,7 @@ fn catch_up(
 )
     requires within { client < length clients.old.items }
     requires below { All (λ number. number < length (posts_of log.now.entries)) latest.now }
+    requires latest { All (IsLatestPost (posts_of log.now.entries)) latest.now }
     requires noted { AreNoted (map (λ post. post.var) (posts_of log.now.entries)) variables.old }
     requires room { (kept : ClientState) → slice_get clients.old.items client ≡ Some kept → length latest.now ≤ kept.spare }
     ensures kept { (inboxes : ℕ → Inbox) → StandsAt made (inboxes client) → AreKeptAs inboxes (posts_of log.now.entries) variables.old clients.old.items →

@@ -1,10 +1,11 @@
 // Those who hear a variable.
-ghost use Rattle.std.specs.Prelude.{◌≡◌, ◌<◌, ◌^◌, ◌++◌, ℕ, false, length, map, IfOk, OnOk};
+ghost use Rattle.std.specs.Prelude.{◌≡◌, ◌<◌, ◌≤◌, ◌^◌, ◌++◌, ℕ, false, true, length, map, slice_get, IfOk, OnOk, Some};
 ghost use Rattle.std.specs.List.{All, list_any};
-ghost use Rattle.moos_mail.specs.Mailboxes.{is_one_of};
-ghost use Rattle.moos_db.specs.Subscriptions.{AreMailed, caught_at, fresh_subscriptions, HasRoom, after_hearing, is_new_at, lives_at, of_client};
+ghost use Rattle.moos_db.specs.Subscriptions.{AreMailed, AreRecipients, caught_at, fresh_subscriptions, HasRoom, IsMailedTo, after_hearing, is_new_at, is_recipient, lives_at, of_client};
+ghost use Rattle.moos_db.specs.Clients.{ClientState};
 
 use crate::client::Client;
+use crate::recipients::Recipients;
 use crate::registration::Registration;
 use crate::subscription::Subscription;
 use moos_post::{Name, NoMemory};
@@ -52,9 +53,10 @@ pub(crate) fn first_subscriptions(
 }
 
 // The post with this number, of this stamp and from the client with this name, comes through each of these at which it is due, and is
-// mailed once to each client that has one.
+// mailed once to each client that has one. These alone are its recipients.
 pub(crate) fn mail_to(
     subscriptions: &mut Vec<Subscription>,
+    recipients: &mut Recipients,
     clients: &mut Vec<Client>,
     number: u64,
     stamp: u64,
@@ -62,15 +64,31 @@ pub(crate) fn mail_to(
 )
     requires below { All (λ subscription. subscription.client < length clients.old.items) subscriptions.old.items }
     requires room { All (HasRoom clients.old.items 1) subscriptions.old.items }
-    requires new { All (λ client. is_one_of number client.mailed ≡ false) clients.old.items }
+    requires marks { length recipients.old ≡ length clients.old.items }
     ensures heard { subscriptions.new.items ≡ map (after_hearing stamp source.now) subscriptions.old.items }
     ensures mailed { AreMailed number stamp source.now subscriptions.old.items clients.old.items clients.new.items }
+    ensures marked { AreRecipients stamp source.now subscriptions.old.items (length clients.old.items) recipients.new }
 {
+    recipients.clear();
     for k in 0..subscriptions.len() {
         if subscriptions[k].hear(stamp, source) {
-            clients[subscriptions[k].client() as usize].mail(number);
+            mail_once(recipients, clients, subscriptions[k].client(), number);
         }
     }
+}
+
+// Mails the post with this number to the client, if that isn't one of its recipients yet, and makes it one.
+fn mail_once(recipients: &mut Recipients, clients: &mut Vec<Client>, client: u32, number: u64)
+    requires within { client < length clients.old.items }
+    requires room { is_recipient recipients.old client ≡ false → (one : ClientState) → slice_get clients.old.items client ≡ Some one → 1 ≤ one.spare }
+    ensures again { is_recipient recipients.old client ≡ true → (recipients.new ≡ recipients.old) × (clients.new.items ≡ clients.old.items) }
+    ensures first { is_recipient recipients.old client ≡ false → IsMailedTo client number recipients.old recipients.new clients.old.items clients.new.items }
+{
+    if recipients.has(client) {
+        return;
+    }
+    recipients.add(client);
+    clients[client as usize].mail(number);
 }
 
 // A post of this stamp that catches up comes through those of these that the client made at this entry and that select it. Tells

@@ -1,16 +1,16 @@
 // The variables that were posted, each with those that hear it.
-ghost use Rattle.std.specs.Prelude.{◌≡◌, ◌<◌, ◌≤◌, ◌+◌, ◌^◌, ◌++◌, ◌∷◌, [], ℕ, List, None, Some, false, true, length, map, slice_get, take, IfOk, OnErr, OnOk};
+ghost use Rattle.std.specs.Prelude.{◌≡◌, ◌<◌, ◌≤◌, ◌+◌, ◌^◌, ◌++◌, ◌∷◌, [], ℕ, List, None, Some, true, length, map, slice_get, slice_set, take, if◌then◌else◌, IfOk, OnErr, OnOk};
 ghost use Rattle.std.specs.List.{All, list_any};
 ghost use Rattle.moos_post.specs.Delivery.{Inbox};
 ghost use Rattle.moos_post.specs.Patterns.{matches};
-ghost use Rattle.moos_mail.specs.Mailboxes.{is_one_of};
-ghost use Rattle.moos_db.specs.Subscriptions.{AreAlike, HearBelow, AreNoted, AreReady, caught_at, HaveLetterRoom, IsAdded, is_new_at, IsNumbering, IsPosted, MayAdd, name_at};
+ghost use Rattle.moos_db.specs.Subscriptions.{AreAlike, HearBelow, AreNoted, AreReady, caught_at, HaveLetterRoom, HaveMarks, IsAdded, is_new_at, is_recipient, IsNumbering, IsPosted, MayAdd, name_at, VariableState};
 ghost use Rattle.moos_db.specs.Registering.{AreEach, AreEachAt, AreRoomier, HasRoomThrough, HaveRoomFor, heard_where, heard_through, IsAddedTo, IsCaught, IsRoomier, latest_at, variable_names};
 ghost use Rattle.moos_db.specs.Tables.{number_of};
 ghost use Rattle.moos_post.specs.declared.value.Post.{Post};
 ghost use Rattle.moos_db.specs.Withdrawing.{AreWithdrawn, IsWithdrawn};
 
 use crate::client::Client;
+use crate::recipients::Recipients;
 use crate::registration::Registration;
 use crate::subscription::Subscription;
 use crate::subscriptions::{catch_all, first_subscriptions, mail_to};
@@ -21,12 +21,13 @@ use std::alloc::Global;
 use std::marker::Model;
 use std::sync::Arc;
 
-// A variable, the number of its latest post, if there is one, and who hears it: of each client the live registrations that match
-// it, in their order.
+// A variable, the number of its latest post, if there is one, to which clients that was mailed, and who hears the variable: of each
+// client the live registrations that match it, in their order.
 #[derive(Drop)]
 pub(crate) struct Variable {
     name: Name,
     latest: Option<u64>,
+    recipients: Recipients,
     subscriptions: Vec<Subscription>,
 }
 
@@ -50,6 +51,7 @@ impl Model for Variable {
     ghost view = { λ variable. record {
       name = variable.name;
       latest = variable.latest;
+      recipients = variable.recipients;
       subscriptions = variable.subscriptions.items;
       room = vec_capacity variable.subscriptions - vec_len variable.subscriptions;
     } };
@@ -116,13 +118,21 @@ impl Variable {
         }
     }
 
-    // A post of it that catches up comes through the registrations that the client made at this entry and that select it. Tells
-    // whether there is one.
+    // Its latest post catches up: it comes through the registrations that the client made at this entry and that select it. Tells
+    // whether there is one, which makes the client one of its recipients.
     fn catch_up(&mut self, client: u32, made: u64, stamp: u64, source: &[u8]) -> bool
         ensures catches { result ≡ list_any (is_new_at client made source.now) self.old.subscriptions }
-        ensures same { self.new ≡ record self.old { subscriptions = map (caught_at client made stamp source.now) self.old.subscriptions; room = self.new.room } }
+        ensures same { self.new ≡ record self.old {
+          recipients = if result then slice_set self.old.recipients client true else self.old.recipients;
+          subscriptions = map (caught_at client made stamp source.now) self.old.subscriptions;
+          room = self.new.room;
+        } }
     {
-        catch_all(&mut self.subscriptions, client, made, stamp, source)
+        let catches = catch_all(&mut self.subscriptions, client, made, stamp, source);
+        if catches {
+            self.recipients.add(client);
+        }
+        catches
     }
 }
 
@@ -187,6 +197,7 @@ impl Variables {
         ensures same { OnErr result (self.new ≡ self.old) }
     {
         let number = self.all.len();
+        let recipients = Recipients::new(alloc, clients.len())?;
         let subscriptions = first_subscriptions(alloc, clients, var)?;
         let name = var.copy(alloc)?;
         self.all.reserve(1)?;
@@ -194,6 +205,7 @@ impl Variables {
         self.all.push_reserved(Variable {
             name,
             latest: None,
+            recipients,
             subscriptions,
         });
         Ok(number)
@@ -261,13 +273,14 @@ impl Variables {
         requires noted { number < length self.old.noted }
         requires below { HearBelow (length clients.old.items) self.old.all }
         requires room { HaveLetterRoom clients.old.items self.old number 1 }
-        requires new { All (λ client. is_one_of number client.mailed ≡ false) clients.old.items }
+        requires marks { HaveMarks (length clients.old.items) self.old.all }
         ensures { IsPosted number stamp source.now self.old self.new clients.old.items clients.new.items }
     {
         let variable = &mut self.all[self.noted[number]];
         variable.latest = Some(number as u64);
         mail_to(
             &mut variable.subscriptions,
+            &mut variable.recipients,
             clients,
             number as u64,
             stamp,
@@ -316,8 +329,19 @@ impl Variables {
         self.all.get(number)?.latest
     }
 
-    // The post with this number, of this stamp and from the client with this name, comes through the registrations that the client
-    // made at this entry and that select it. Tells whether there is one.
+    // Whether the post with this number, which is the latest of its variable, was mailed to the client.
+    pub fn was_mailed(&self, client: u32, number: u64) -> bool
+        requires { number < length self.now.noted }
+        ensures { (place : ℕ) (variable : VariableState) → slice_get self.now.noted number ≡ Some place → slice_get self.now.all place ≡ Some variable →
+            result ≡ is_recipient variable.recipients client }
+    {
+        let place = self.noted[number as usize];
+        self.all[place].recipients.has(client)
+    }
+
+    // The post with this number, the latest of its variable, of this stamp and from the client with this name, comes through the
+    // registrations that the client made at this entry and that select it. Tells whether there is one, which makes the client one of
+    // the post's recipients.
     pub fn catch_up(
         &mut self,
         client: u32,

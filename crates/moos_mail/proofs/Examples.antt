@@ -1,5 +1,5 @@
 -- The sentences of the delivery rule worked by hand.
-use Rattle.std.proofs.Common.{◌≡◌, ℕ, zero, suc, ◌*◌, ◌<◌, ◌≤◌, ◌≢◌, inl, inr, List, [], ◌∷◌, get_or, map, take, Some, None, Option, AllPairs, refl, ap, ◌∙◌, true, false, arith}
+use Rattle.std.proofs.Common.{◌≡◌, ℕ, zero, suc, ◌*◌, ◌≢◌, inl, inr, List, [], ◌∷◌, map, take, Some, None, Option, AllPairs, refl, ap, ◌∙◌, true, false, arith}
 use Rattle.std.specs.Prelude.{pos, codes, slice_get}
 use Rattle.std.specs.List.{list_all}
 use Rattle.std.proofs.lemmas.List.Elements.{All-cons, All-head, All-nil}
@@ -13,8 +13,7 @@ use Rattle.moos_post.specs.declared.value.Post.{Post}
 use Rattle.moos_post.specs.declared.value.Value.TheVariants.{Num}
 use Rattle.moos_post.specs.Delivery.{mail_after, Mailing, mailed_to, mailing}
 use Rattle.moos_post.specs.History.{History, posts_of}
-use Rattle.moos_mail.specs.declared.number_ranges.NumberRange.{NumberRange}
-use Rattle.moos_mail.specs.Mailboxes.{MailboxState, AreNumberRanges, in_rising_order, is_one_of, IsPlaceAmong, numbers_of_all, with_number}
+use Rattle.moos_mail.specs.Mailboxes.{MailboxState}
 use Rattle.moos_mail.specs.Registrations.{MadeReg, made_at, live_before, came_through, is_to_mail, is_mailed_at, IsLive, regs_of}
 use Rattle.moos_mail.specs.Sentences.{given_at, given_before, HearsAll, keeps_lives, mailed_between, numbers_mailed, numbers_selected, posts_before, since, StampsRise, AreOnceEach, IsBefore, IsMadeBy}
 
@@ -111,47 +110,12 @@ other_numbers each = let before : IsBefore (mailing 2 2) (mailing 1 2) = each.ri
 other_entries : AreOnceEach history (mailing 3 4 ∷ mailing 1 2 ∷ []) → ⊥
 other_entries each = let before : IsBefore (mailing 3 4) (mailing 1 2) = each.rising 0 1 (mailing 0 0) (omega arith) (omega arith) in grind arith
 
--- Before the second fetch one number waits of the three that were mailed.
+-- Before the second fetch one number waits.
 abbrev box : MailboxState
-box = record { waiting = 3 ∷ []; mailed = 1 ∷ 2 ∷ 3 ∷ []; spare = 5 }
+box = record { waiting = 3 ∷ []; spare = 5 }
 
-box_is : (box.waiting ≡ given_at names history 5) × (box.mailed ≡ mailed_between 0 5 (mailed_to names 0 history))
-box_is = (refl, refl)
-
-in_box : map (λ n. is_one_of n box.mailed) (0 ∷ 1 ∷ 2 ∷ 3 ∷ 4 ∷ []) ≡ false ∷ true ∷ true ∷ true ∷ false ∷ []
-in_box = refl
-
--- A number more goes into its place, and only there does it keep the order.
-put_in_order : (with_number 2 (1 ∷ 3 ∷ []) ≡ 1 ∷ 2 ∷ 3 ∷ []) × (in_rising_order (3 ∷ 1 ∷ 2 ∷ []) ≡ box.mailed)
-put_in_order = (refl, refl)
-
--- 1 to 3, and 6
-abbrev some_number_ranges : List NumberRange
-some_number_ranges = record { first = 1; last = 3 } ∷ record { first = 6; last = 6 } ∷ []
-
-numbers_are : numbers_of_all some_number_ranges ≡ 1 ∷ 2 ∷ 3 ∷ 6 ∷ []
-numbers_are = refl
-
-are_number_ranges : AreNumberRanges 1 some_number_ranges
-are_number_ranges = (omega arith, omega arith, (omega arith, omega arith, tt))
-
-not_from_two : AreNumberRanges 2 some_number_ranges → ⊥
-not_from_two are = let from : 2 ≤ 1 = are.0 in omega arith
-
-its_place : IsPlaceAmong 4 some_number_ranges 1
-its_place = record { within = omega arith; below = below; from = from }
-  where
-    below : (k : ℕ) (d : NumberRange) → k < 1 → (get_or some_number_ranges k d).last < 4
-    below zero d first = omega arith
-    below (suc k) d first = absurd (omega arith)
-
-    from : (k : ℕ) (d : NumberRange) → 1 ≤ k → k < 2 → 4 ≤ (get_or some_number_ranges k d).last
-    from zero d behind inside = absurd (omega arith)
-    from (suc zero) d behind inside = omega arith
-    from (suc (suc k)) d behind inside = absurd (omega arith)
-
-no_place : IsPlaceAmong 4 some_number_ranges 0 → ⊥
-no_place place = let behind : 4 ≤ 3 = place.from 0 (record { first = 1; last = 3 }) (omega arith) (omega arith) in omega arith
+box_is : box.waiting ≡ given_at names history 5
+box_is = refl
 
 -- Live registrations: the second place of an entry ends the first, a later entry ends one of another, and a client's own
 -- entries alone end its registrations.

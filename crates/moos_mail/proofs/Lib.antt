@@ -1,4 +1,3 @@
-pub mod Among
 pub mod Appending
 pub mod Catching
 pub mod Coming

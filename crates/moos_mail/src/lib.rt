@@ -1,18 +1,16 @@
-//! What is mailed to one client: the numbers of the posts that wait for its next fetch, and of all that were ever mailed.
+//! What is mailed to one client: the numbers of the posts that wait for its next fetch.
 //!
-//! The contract for the layers above: a mailbox is the list that waits, the list of all numbers ever mailed, and how many
-//! more can be mailed without memory. Memory is taken by `reserve` alone, so that a caller can take it for a whole call
-//! before anything changes. The numbers ever mailed are kept as ranges of numbers that follow one another, in rising
-//! order, so that one is found by halves.
+//! The contract for the layers above: a mailbox is the list that waits, and how many more can be mailed without memory.
+//! Memory is taken by `reserve` alone, so that a caller can take it for a whole call before anything changes. What was
+//! fetched is forgotten here.
 //!
 //! `delivery_law` says the delivery rule over again, in sentences about the places of a history.
 //!
-//! Reading order: `number_ranges`, `mailbox`, then `law`, the sentences.
+//! Reading order: `mailbox`, then `law`, the sentences.
 #![tactic(auto)]
 
 mod law;
 mod mailbox;
-mod number_ranges;
 
 pub use law::delivery_law;
 pub use mailbox::Mailbox;

@@ -1,11 +1,8 @@
-use Rattle.std.proofs.Common.{◌≡◌, ◌∙◌, ◌<◌, ◌≤◌, ◌+◌, ◌-◌, ◌++◌, ◌∷◌, [], Some, ap, false, length, slice_get, subst, sym, take, arith, length-append}
-use Rattle.std.specs.List.{All}
+use Rattle.std.proofs.Common.{◌≡◌, ◌∙◌, ◌≤◌, ◌+◌, ◌-◌, ◌++◌, ◌∷◌, [], Some, ap, length, slice_get, subst, sym, take, arith, length-append}
 use Rattle.moos_post.specs.History.{name_of, posts_of, posts_of_entry}
-use Rattle.moos_mail.specs.Mailboxes.{is_one_of}
-use Rattle.moos_db.specs.Clients.{ClientState}
 use Rattle.moos_db.specs.Subscriptions.{IsPosted}
 use Rattle.moos_db.specs.Places.{AreKept, inboxes_after}
-use Rattle.moos_db.proofs.Batches.{IsPosting, forgotten-kept, found-origin, kept-below, next-post, posting-end, posting-new, posting-next, posting-start, posts-next, ready-from}
+use Rattle.moos_db.proofs.Batches.{IsPosting, forgotten-kept, found-origin, kept-below, kept-marks, next-post, posting-end, posting-next, posting-start, posts-next, ready-from}
 use Rattle.moos_db.proofs.posting.post.Goals as goal
 
 pub add_entry-requires-clause-below : goal.add_entry-requires-clause-below
@@ -41,18 +38,8 @@ loop-number-init c =
 pub mail-requires-clause-below : goal.mail-requires-clause-below
 mail-requires-clause-below c = kept-below _ _ c.loop-number.variables c.loop-number.clients.items c.loop-number.invariant.stand
 
-pub mail-requires-clause-new : goal.mail-requires-clause-new
-mail-requires-clause-new c =
-    let names = c.args.names.now in
-    let history = c.args.log.now.entries in
-    let number = c.loop-number.number in
-    let entries : c.add_entry.new.log.entries ≡ history ++ c.args.entry ∷ [] = ap (λ log. log.entries) c.in_default.ensures.ok in
-    let count : length (posts_of c.add_entry.new.log.entries) ≡ length (posts_of history) + length (posts_of_entry c.args.entry) =
-    ap (λ h. length (posts_of h)) entries ∙ ap length (posts-next history c.args.entry) ∙ length-append (posts_of history) (posts_of_entry c.args.entry) in
-    let done : number - c.posts-first.result < length (posts_of_entry c.args.entry) = omega (arith, count, c.posts-number-end.ensures, c.posts-first.ensures, c.loop-number-test.true) in
-    subst (λ n. All (λ (client : ClientState). is_one_of n client.mailed ≡ false) c.loop-number.clients.items)
-    (let e : length (posts_of history) + (number - c.posts-first.result) ≡ number = omega (arith, c.posts-first.ensures) in e)
-    (posting-new names history (posts_of_entry c.args.entry) (number - c.posts-first.result) c.loop-number.variables c.loop-number.clients.items c.loop-number.invariant done)
+pub mail-requires-clause-marks : goal.mail-requires-clause-marks
+mail-requires-clause-marks c = kept-marks _ _ c.loop-number.variables c.loop-number.clients.items c.loop-number.invariant.stand
 
 pub loop-number-preserved : goal.loop-number-preserved
 loop-number-preserved c =

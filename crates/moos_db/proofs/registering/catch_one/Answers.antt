@@ -1,7 +1,7 @@
-use Rattle.std.proofs.Common.{◌≡◌, ◌∙◌, ◌≤◌, ◌+◌, false, ap, set, slice_get, Some, subst, sym}
+use Rattle.std.proofs.Common.{◌≡◌, ◌∙◌, ◌≤◌, ◌+◌, ap, set, slice_get, Some, subst, sym}
 use Rattle.std.proofs.lemmas.List.{set-get_or}
-use Rattle.std.proofs.lemmas.Option.{same_Some, slice_get-get_or}
-use Rattle.moos_mail.specs.Mailboxes.{is_one_of}
+use Rattle.std.proofs.lemmas.Option.{get_or_from_slice_get, same_Some, slice_get-get_or}
+use Rattle.moos_mail.proofs.Lists.{found-below}
 use Rattle.moos_post.specs.History.{posts_of}
 use Rattle.moos_db.specs.Clients.{ClientState}
 use Rattle.moos_db.specs.Subscriptions.{AreKeptAs, mailed_if, with_inbox}
@@ -12,33 +12,28 @@ use Rattle.moos_db.proofs.registering.catch_one.Goals as goal
 
 pub returns-then-was_mailed-clause-kept : goal.returns-then-was_mailed-clause-kept
 returns-then-was_mailed-clause-kept c =
-    let states = c.args.clients.now.items in
-    let client = c.args.client in
-    let one : ClientState = c.index.result.now in
-    let here : slice_get states client ≡ Some one = slice_get-get_or states client one c.requires.within ∙ ap (λ x. Some x) (sym c.index.ensures) in
     λ inboxes at are.
-    catch-mailed c.args.names.now (posts_of c.args.log.now.entries) client c.args.number c.args.variables.now states one here (sym c.was_mailed.ensures ∙ c.if-was_mailed.true) inboxes are
+    catch-mailed c.args.names.now (posts_of c.args.log.now.entries) c.args.client c.args.number c.args.variables.now c.args.clients.now.items c.requires.within c.requires.below c.requires.latest c.requires.noted
+    (λ place variable noted there. sym (c.was_mailed.ensures place variable noted there) ∙ c.if-was_mailed.true) inboxes are
 
 pub mail-requires : goal.mail-requires
 mail-requires c =
     let states = c.args.clients.now.items in
     let one : ClientState = c.index_mut.result.now in
-    λ fresh. c.requires.room one (slice_get-get_or states c.args.client one c.requires.within ∙ ap (λ x. Some x) (sym c.index_mut.ensures.value))
+    c.requires.room one (slice_get-get_or states c.args.client one c.requires.within ∙ ap (λ x. Some x) (sym c.index_mut.ensures.value))
 
 pub returns-then-catch_up-clause-kept : goal.returns-then-catch_up-clause-kept
 returns-then-catch_up-clause-kept c =
     let states = c.args.clients.now.items in
     let client = c.args.client in
     let number = c.args.number in
-    let first : ClientState = c.index.result.now in
     let one : ClientState = c.index_mut.result.now in
     let other : ClientState = c.mail.new.self in
-    let before : slice_get states client ≡ Some first = slice_get-get_or states client first c.requires.within ∙ ap (λ x. Some x) (sym c.index.ensures) in
     let here : slice_get states client ≡ Some one = slice_get-get_or states client one c.requires.within ∙ ap (λ x. Some x) (sym c.index_mut.ensures.value) in
-    let fresh : is_one_of number one.mailed ≡ false = ap (λ (state : ClientState). is_one_of number state.mailed) (same_Some one first (sym here ∙ before)) ∙ sym c.was_mailed.ensures ∙ c.if-was_mailed.false in
     catch-one c.args.names.now (posts_of c.args.log.now.entries) client c.args.made number c.catch_up.result c.args.variables.now c.catch_up.new.self c.origin-origin.result c.source_of-source.result.now
-    c.requires.below c.origin-origin.ensures c.source_of-source.ensures c.requires.noted c.catch_up.ensures states one other here fresh
-    (c.mail.ensures.once ∙ ap (λ b. record (mailed_if b number one) { spare = other.spare }) (sym c.if-catch_up.true))
+    c.requires.below c.origin-origin.ensures c.source_of-source.ensures c.requires.noted c.catch_up.ensures c.requires.latest
+    (λ place variable noted there. sym (c.was_mailed.ensures place variable noted there) ∙ c.if-was_mailed.false) states one other here
+    (c.mail.ensures.mailed ∙ ap (λ b. record (mailed_if b number one) { spare = other.spare }) (sym c.if-catch_up.true))
 
 pub returns-then-catch_up-clause-noted : goal.returns-then-catch_up-clause-noted
 returns-then-catch_up-clause-noted c =
@@ -62,13 +57,14 @@ returns-else-catch_up-clause-kept c =
     let client = c.args.client in
     let number = c.args.number in
     let posts = posts_of c.args.log.now.entries in
-    let one : ClientState = c.index.result.now in
-    let here : slice_get states client ≡ Some one = slice_get-get_or states client one c.requires.within ∙ ap (λ x. Some x) (sym c.index.ensures) in
+    let one : (x : ClientState) × (slice_get states client ≡ Some x) = found-below states client c.requires.within in
     λ inboxes at are.
-    subst (AreKeptAs (with_inbox client (λ one. catch_number c.args.names.now posts one number) inboxes) posts c.catch_up.new.self) (ap (set states client) c.index.ensures ∙ set-get_or states client one)
+    subst (AreKeptAs (with_inbox client (λ one. catch_number c.args.names.now posts one number) inboxes) posts c.catch_up.new.self)
+    (ap (set states client) (sym (get_or_from_slice_get states client one.0 one.0 one.1)) ∙ set-get_or states client one.0)
     (catch-one c.args.names.now posts client c.args.made number c.catch_up.result c.args.variables.now c.catch_up.new.self c.origin-origin.result c.source_of-source.result.now
-    c.requires.below c.origin-origin.ensures c.source_of-source.ensures c.requires.noted c.catch_up.ensures states one one here (sym c.was_mailed.ensures ∙ c.if-was_mailed.false)
-    (ap (λ b. record (mailed_if b number one) { spare = one.spare }) (sym c.if-catch_up.false)) inboxes at are)
+    c.requires.below c.origin-origin.ensures c.source_of-source.ensures c.requires.noted c.catch_up.ensures c.requires.latest
+    (λ place variable noted there. sym (c.was_mailed.ensures place variable noted there) ∙ c.if-was_mailed.false) states one.0 one.0 one.1
+    (ap (λ b. record (mailed_if b number one.0) { spare = one.0.spare }) (sym c.if-catch_up.false)) inboxes at are)
 
 pub returns-else-catch_up-clause-noted : goal.returns-else-catch_up-clause-noted
 returns-else-catch_up-clause-noted c =

@@ -9,11 +9,11 @@ use Rattle.moos_post.specs.History.{History, posts_of}
 use Rattle.moos_db.specs.Clients.{ClientState}
 use Rattle.moos_db.specs.Subscriptions.{AreKeptAs, AreNoted, VariableState, with_inbox, with_lives}
 use Rattle.moos_db.specs.Places.{AreKept, inboxes_after, LogState}
-use Rattle.moos_db.specs.Registering.{IsStill, PreparedState, StandsAt, catch_number, latest_prepared, variable_names, prepared_of, with_prepared}
+use Rattle.moos_db.specs.Registering.{IsLatestPost, IsStill, PreparedState, StandsAt, catch_number, latest_prepared, variable_names, prepared_of, with_prepared}
 use Rattle.moos_db.proofs.AfterCalls.{AreKept-room, no-posts}
 use Rattle.moos_db.proofs.AfterRegistering.{roomier-names}
 use Rattle.moos_db.proofs.Changes.{AreNoted-names, names-each, set-at}
-use Rattle.moos_db.proofs.Registered.{AreKept-register, AreKept-roomier, all-ready, latest-below, stands-next}
+use Rattle.moos_db.proofs.Registered.{AreKept-register, AreKept-roomier, all-ready, latest-below, latest-posts, stands-next}
 use Rattle.moos_db.proofs.registering.register.Goals as goal
 
 pub returns-in_err-all-clause-kept : goal.returns-in_err-all-clause-kept
@@ -68,6 +68,18 @@ catch_up-requires-clause-below c =
     subst (λ list. All (λ number. number < length list) c.as_slice-2.result.now) (sym posts)
     (subst (All (λ number. number < length (posts_of entries))) (sym c.as_slice-2.ensures.value)
     (latest-below (posts_of entries) c.prepare_all.new.variables.all all c.in_ok-latest.latest.items ready.kept.heard.latest c.in_ok-latest.ensures.only))
+
+pub catch_up-requires-clause-latest : goal.catch_up-requires-clause-latest
+catch_up-requires-clause-latest c =
+    let entries = c.args.log.now.entries in
+    let entry : Entry = record { stamp = c.args.stamp; client = c.args.client; call = Register c.args.regs } in
+    let added : c.append.new.self.entries ≡ entries ++ entry ∷ [] = search rules in
+    let posts : posts_of c.append.new.self.entries ≡ posts_of entries = ap posts_of added ∙ no-posts entries entry refl in
+    let ready : AreKept c.args.names.now entries c.prepare_all.new.variables c.args.clients.now.items
+    = AreKept-roomier c.args.names.now entries c.args.variables.now c.prepare_all.new.variables c.args.clients.now.items c.prepare_all.ensures.roomier c.requires.kept in
+    subst (λ list. All (IsLatestPost list) c.as_slice-2.result.now) (sym posts)
+    (subst (All (IsLatestPost (posts_of entries))) (sym c.as_slice-2.ensures.value)
+    (latest-posts (posts_of entries) c.prepare_all.new.variables.all c.as_slice.result.now c.in_ok-latest.latest.items ready.kept.heard.latest c.in_ok-latest.ensures.only))
 
 pub catch_up-requires-clause-noted : goal.catch_up-requires-clause-noted
 catch_up-requires-clause-noted c =

@@ -7,5 +7,5 @@ use Rattle.moos_db.proofs.subscriptions.mail_to.Given as goal
 abbrev pub invariant-loop-k : goal.invariant-loop-k
 invariant-loop-k l = record {
   heard : l.subscriptions.items ≡ map (after_hearing l.stamp l.source) (take l.k l.fn.subscriptions.items) ++ drop l.k l.fn.subscriptions.items;
-  mailed : IsMailing l.number l.stamp l.source (take l.k l.fn.subscriptions.items) l.fn.clients.items l.clients.items;
+  mailed : IsMailing l.number l.stamp l.source (take l.k l.fn.subscriptions.items) l.fn.clients.items l.clients.items l.recipients;
 }

@@ -8,9 +8,9 @@ use Rattle.moos_db.proofs.variables.Variable.withdraw.Goals as goal
 pub returns-then-matches : goal.returns-then-matches
 returns-then-matches c =
     let before : VariableState
-    = record { name = c.self.inside.name; latest = c.self.inside.latest; subscriptions = c.self.inside.subscriptions.items; room = vec_capacity c.self.inside.subscriptions - vec_len c.self.inside.subscriptions } in
+    = record { name = c.self.inside.name; latest = c.self.inside.latest; recipients = c.self.inside.recipients; subscriptions = c.self.inside.subscriptions.items; room = vec_capacity c.self.inside.subscriptions - vec_len c.self.inside.subscriptions } in
     let after : VariableState
-    = record { name = c.self.inside.name; latest = c.self.inside.latest; subscriptions = c.retain.new.self.items; room = vec_capacity c.retain.new.self - vec_len c.retain.new.self } in
+    = record { name = c.self.inside.name; latest = c.self.inside.latest; recipients = c.self.inside.recipients; subscriptions = c.retain.new.self.items; room = vec_capacity c.retain.new.self - vec_len c.retain.new.self } in
     let left : c.retain.new.self.items ≡ filter (λ subscription. not (is_registration c.args.client c.args.var.now c.args.source.now subscription)) c.self.inside.subscriptions.items
     = filter_same _ (λ subscription. not (is_registration c.args.client c.args.var.now c.args.source.now subscription)) _ (λ x b f' k. search rules) _ _ c.retain.ensures.filtered in
     let matched : matches c.args.var.now c.self.inside.name ≡ true = search rules in
