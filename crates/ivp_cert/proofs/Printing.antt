@@ -3,8 +3,10 @@ use Rattle.std.proofs.Common.{◌≡◌, ℕ, ◌+◌, ◌<◌, Option, Some, No
 use Rattle.std.specs.List.{concat}
 use Rattle.std.specs.Prelude.{IfSome, codes, slice_get}
 use Rattle.std.proofs.lemmas.Option.{get_or_from_slice_get, slice_get-get_or}
-use Rattle.moos_io.specs.Writing.{Way, Went, Stopped}
-use Rattle.moos_io.proofs.Passages.{each_failed, each_on, Leads, stopped_as, went_as}
+use Rattle.moos_io.specs.declared.buffered_writer.BufferedWriter.{BufferedWriter}
+use Rattle.moos_io.specs.BufferedWriting.{Writes}
+use Rattle.moos_io.specs.Faults.{Faring}
+use Rattle.moos_io.proofs.BufferedWriting.{Leaves, each_less, writes_as}
 use Rattle.ivp_func.specs.Functions.{Function}
 use Rattle.ivp_problem.specs.declared.term.Term.{Term}
 use Rattle.ivp_problem.specs.Problems.{WeightedSum}
@@ -23,17 +25,11 @@ term_at terms i weight func within w f = by (slice_get terms i) (slice_get-get_o
     by None e w f = absurd (cc)
     by (Some term) e w f = ap (λ n. Some (term_with n term.func)) (sym w) ∙ ap (λ g. Some (term_with weight g)) (sym f)
 
-pub terms_on : {a b c : Way} {whole : List ℕ} (prefix : List ℕ) (problem : WeightedSum) (axes i weight : ℕ) (func : Function) → Leads a b (flat_map (term_text prefix (length problem.axes)) (drop i problem.terms)) whole → i < length problem.terms → axes ≡ length problem.axes → IfSome (slice_get problem.terms i) (λ term. weight ≡ term.weight) → IfSome (slice_get problem.terms i) (λ term. func ≡ term.func) → Went b c (term_text prefix axes (term_with weight func)) → Leads a c (flat_map (term_text prefix (length problem.axes)) (drop (i + 1) problem.terms)) whole
-terms_on prefix problem axes i weight func so within many w f went =
+pub terms_less : {S : Type 0} {taken : S → Option (List ℕ)} {faults : S → Faring} {a b c : BufferedWriter S} {whole : List ℕ} (prefix : List ℕ) (problem : WeightedSum) (axes i weight : ℕ) (func : Function) → Leaves taken faults a b (flat_map (term_text prefix (length problem.axes)) (drop i problem.terms)) whole → i < length problem.terms → axes ≡ length problem.axes → IfSome (slice_get problem.terms i) (λ term. weight ≡ term.weight) → IfSome (slice_get problem.terms i) (λ term. func ≡ term.func) → Writes taken faults b c (term_text prefix axes (term_with weight func)) → Leaves taken faults a c (flat_map (term_text prefix (length problem.axes)) (drop (i + 1) problem.terms)) whole
+terms_less prefix problem axes i weight func so within many w f wrote =
     let at = term_at problem.terms i weight func within w f in
-    each_on (term_text prefix (length problem.axes)) problem.terms i (term_with weight func) so within (sym (get_or_from_slice_get problem.terms i (term_with weight func) (term_with weight func) at))
-    (went_as (ap (λ n. term_text prefix n (term_with weight func)) many) went)
-
-pub terms_failed : {a b c : Way} {whole : List ℕ} (prefix : List ℕ) (problem : WeightedSum) (axes i weight : ℕ) (func : Function) → Leads a b (flat_map (term_text prefix (length problem.axes)) (drop i problem.terms)) whole → i < length problem.terms → axes ≡ length problem.axes → IfSome (slice_get problem.terms i) (λ term. weight ≡ term.weight) → IfSome (slice_get problem.terms i) (λ term. func ≡ term.func) → Stopped b c (term_text prefix axes (term_with weight func)) → Stopped a c whole
-terms_failed prefix problem axes i weight func so within many w f stopped =
-    let at = term_at problem.terms i weight func within w f in
-    each_failed (term_text prefix (length problem.axes)) problem.terms i (term_with weight func) so within (sym (get_or_from_slice_get problem.terms i (term_with weight func) (term_with weight func) at))
-    (stopped_as (ap (λ n. term_text prefix n (term_with weight func)) many) stopped)
+    each_less (term_text prefix (length problem.axes)) problem.terms i (term_with weight func) so within (sym (get_or_from_slice_get problem.terms i (term_with weight func) (term_with weight func) at))
+    (writes_as (ap (λ n. term_text prefix n (term_with weight func)) many) wrote)
 
 -- the text of a decision: what it states, and then its certificate
 pub stated : (prefix : List ℕ) (decision : Decision) → (problem_text prefix decision.problem ++ claim_text prefix (length decision.problem.axes) decision.claim) ++ (flat_map (line_text prefix) decision.cert ++ concat (prefix ∷ codes "done\n" ∷ [])) ≡ decision_lines prefix decision

@@ -1,16 +1,13 @@
 // A decision's text by several workers: each formats a chunk of the certificate's lines, and the texts go out in order.
-ghost use Rattle.std.specs.Prelude.{◌≡◌, ◌≤◌, ◌<◌, ◌*◌, ◌+◌, ◌/◌, ◌%◌, ℕ, Option, IfOk, IfSome, OnOk, OnErr, drop, flat_map, length, min, take, slice_index_or};
-ghost use Rattle.moos_io.specs.Faults.{FaresOn, Fell};
-ghost use Rattle.moos_io.specs.Pieces.{Took, TookFront};
+ghost use Rattle.std.specs.Prelude.{◌≡◌, ◌≤◌, ◌<◌, ◌*◌, ◌+◌, ◌/◌, ◌%◌, ℕ, Option, IfOk, IfSome, drop, flat_map, length, min, take, slice_index_or};
 ghost use Rattle.moos_io.specs.SinkState.{SinkState};
-ghost use Rattle.moos_io.specs.Writing.{way, Wrote};
+ghost use Rattle.moos_io.specs.BufferedWriting.{Delivers, Writes};
 ghost use Rattle.ivp_cert.specs.Texts.{decision_lines, line_text};
 
 use crate::cert::Line;
 use crate::claim::Decision;
 use crate::print::{put_lines, put_stated};
-use crate::put::put;
-use moos_io::{Buffer, Failed, MemSink, Sink};
+use moos_io::{BufferedWriter, Failed, MemSink, Sink};
 use moos_post::NoMemory;
 use std::alloc::Global;
 use std::thread::{Threads, map_chunks};
@@ -33,44 +30,30 @@ pub fn print_decision_by_workers<R: Threads + Sync, K: Sink>(
 ) -> Result<(), Failed>
     requires some { 1 ≤ workers }
     requires few { workers ≤ 16 }
-    ensures ok { OnOk result (Took (K.taken out.old) (K.taken out.new) (decision_lines prefix.now decision.now)) }
-    ensures front { OnErr result (TookFront (K.taken out.old) (K.taken out.new) (decision_lines prefix.now decision.now)) }
-    ensures later { FaresOn (K.faults out.old) (K.faults out.new) }
-    ensures rose { OnErr result (Fell (K.faults out.old) (K.faults out.new) (K.taken out.new)) }
+    ensures { Delivers K.taken K.faults out.old out.new result (decision_lines prefix.now decision.now) }
 {
-    let mut buffer = Buffer::new();
-    if let Err(failed) = put_decision(rt, alloc, prefix, decision, workers, &mut buffer, out) {
-        return Err(failed);
-    }
-    if let Err(failed) = buffer.flush(out) {
-        return Err(failed);
-    }
-    Ok(())
+    let mut writer = BufferedWriter::new(out);
+    put_decision(rt, alloc, prefix, decision, workers, &mut writer);
+    writer.finish()
 }
 
-// The whole decision through a buffer.
+// The whole decision through a writer.
 fn put_decision<R: Threads + Sync, K: Sink>(
     rt: &R,
     alloc: Global,
     prefix: &[u8],
     decision: &Decision,
     workers: u32,
-    buffer: &mut Buffer,
-    out: &mut K,
-) -> Result<(), Failed>
+    out: &mut BufferedWriter<'_, K>,
+)
     requires some { 1 ≤ workers }
     requires few { workers ≤ 16 }
-    ensures { Wrote (way (K.taken out.old) buffer.old (K.faults out.old)) (way (K.taken out.new) buffer.new (K.faults out.new))
-        result (decision_lines prefix.now decision.now) }
+    ensures { Writes K.taken K.faults out.old out.new (decision_lines prefix.now decision.now) }
 {
     let (lines, workers) = (decision.cert.all(), workers as usize);
-    if let Err(failed) = put_stated(prefix, decision, buffer, out) {
-        return Err(failed);
-    }
-    if let Err(failed) = put_parts(rt, alloc, prefix, lines, workers, buffer, out) {
-        return Err(failed);
-    }
-    put(&[prefix, b"done\n"], buffer, out)
+    put_stated(prefix, decision, out);
+    put_parts(rt, alloc, prefix, lines, workers, out);
+    out.write(&[prefix, b"done\n"]);
 }
 
 // Lines: if there are several workers and chunks, each worker has a chunk at a time.
@@ -80,26 +63,25 @@ fn put_parts<R: Threads + Sync, K: Sink>(
     prefix: &[u8],
     lines: &[Line],
     workers: usize,
-    buffer: &mut Buffer,
-    out: &mut K,
-) -> Result<(), Failed>
+    out: &mut BufferedWriter<'_, K>,
+)
     requires some { 1 ≤ workers }
     requires few { workers ≤ 16 }
-    ensures { Wrote (way (K.taken out.old) buffer.old (K.faults out.old)) (way (K.taken out.new) buffer.new (K.faults out.new))
-        result (flat_map (line_text prefix.now) lines.now) }
+    ensures { Writes K.taken K.faults out.old out.new (flat_map (line_text prefix.now) lines.now) }
 {
     if workers == 1 || lines.len() <= CHUNK {
-        return put_lines(prefix, lines, buffer, out);
+        put_lines(prefix, lines, out);
+        return;
     }
     let mut left = lines;
     while left.len() > 0 {
-        let (part, later) = left.split_at(left.len().min(workers * CHUNK));
-        if let Err(failed) = put_part(rt, alloc, prefix, part, buffer, out) {
-            return Err(failed);
+        if out.failed() {
+            return;
         }
+        let (part, later) = left.split_at(left.len().min(workers * CHUNK));
+        put_part(rt, alloc, prefix, part, out);
         left = later;
     }
-    Ok(())
 }
 
 // Lines of which each chunk is formatted on a thread of its own, if one can be started.
@@ -108,22 +90,18 @@ fn put_part<R: Threads + Sync, K: Sink>(
     alloc: Global,
     prefix: &[u8],
     lines: &[Line],
-    buffer: &mut Buffer,
-    out: &mut K,
-) -> Result<(), Failed>
-    ensures { Wrote (way (K.taken out.old) buffer.old (K.faults out.old)) (way (K.taken out.new) buffer.new (K.faults out.new))
-        result (flat_map (line_text prefix.now) lines.now) }
+    out: &mut BufferedWriter<'_, K>,
+)
+    ensures { Writes K.taken K.faults out.old out.new (flat_map (line_text prefix.now) lines.now) }
 {
     let Ok(texts) = texts_of(rt, alloc, prefix, lines) else {
-        return put_lines(prefix, lines, buffer, out);
+        put_lines(prefix, lines, out);
+        return;
     };
     for number in 0..texts.len() {
         let chunk = chunk_of(lines, number);
-        if let Err(failed) = put_chunk(prefix, chunk, &texts[number], buffer, out) {
-            return Err(failed);
-        }
+        put_chunk(prefix, chunk, &texts[number], out);
     }
-    Ok(())
 }
 
 // The chunk of this number.
@@ -141,16 +119,14 @@ fn put_chunk<K: Sink>(
     prefix: &[u8],
     lines: &[Line],
     text: &Option<MemSink>,
-    buffer: &mut Buffer,
-    out: &mut K,
-) -> Result<(), Failed>
+    out: &mut BufferedWriter<'_, K>,
+)
     requires { IfSome text.now (λ sink. sink.taken ≡ flat_map (line_text prefix.now) lines.now) }
-    ensures { Wrote (way (K.taken out.old) buffer.old (K.faults out.old)) (way (K.taken out.new) buffer.new (K.faults out.new))
-        result (flat_map (line_text prefix.now) lines.now) }
+    ensures { Writes K.taken K.faults out.old out.new (flat_map (line_text prefix.now) lines.now) }
 {
     match text {
-        Some(sink) => put(&[sink.bytes()], buffer, out),
-        None => put_lines(prefix, lines, buffer, out),
+        Some(sink) => out.write(&[sink.bytes()]),
+        None => put_lines(prefix, lines, out),
     }
 }
 
@@ -176,8 +152,8 @@ fn text_of(alloc: Global, prefix: &[u8], lines: &[Line]) -> Option<MemSink>
     ensures { IfSome result (λ sink. sink.taken ≡ flat_map (line_text prefix.now) lines.now) }
 {
     let mut sink = MemSink::make(alloc, ROOM, ROOM).ok()?;
-    let mut buffer = Buffer::new();
-    put_lines(prefix, lines, &mut buffer, &mut sink).ok()?;
-    buffer.flush(&mut sink).ok()?;
+    let mut writer = BufferedWriter::new(&mut sink);
+    put_lines(prefix, lines, &mut writer);
+    writer.finish().ok()?;
     Some(sink)
 }

@@ -1,57 +1,36 @@
 // The lines of a problem.
 ghost use Rattle.std.specs.Prelude.{◌≡◌, ◌<◌, ◌≤◌, ◌*◌, [], ◌∷◌, flat_map, length, codes, IsTrue};
 ghost use Rattle.std.specs.List.{concat};
-ghost use Rattle.moos_io.specs.Writing.{way, Wrote};
+ghost use Rattle.moos_io.specs.BufferedWriting.{Writes};
 ghost use Rattle.moos_post.specs.Words.{IsMilli};
 ghost use Rattle.moos_text.specs.Numbers.{unsigned_text};
 ghost use Rattle.ivp_domain.specs.Axes.{is_good_axis};
 ghost use Rattle.ivp_cert.specs.Texts.{axis_text, ends_of, piece_text, problem_text, term_text};
 
-use crate::put::{put, put_integer, put_integers, put_numbers};
+use crate::put::{put_integer, put_integers, put_numbers};
 use ivp_domain::{Axis, BoxN, Domain};
 use ivp_func::{Func, Piece};
 use ivp_problem::Problem;
-use moos_io::{Buffer, Failed, Sink};
+use moos_io::{BufferedWriter, Sink};
 use moos_post::Milli;
 use moos_text::{print_milli, print_unsigned};
 
 /// The lines of a problem.
-pub fn put_problem<K: Sink>(
-    prefix: &[u8],
-    problem: &Problem,
-    buffer: &mut Buffer,
-    out: &mut K,
-) -> Result<(), Failed>
-    ensures { Wrote (way (K.taken out.old) buffer.old (K.faults out.old)) (way (K.taken out.new) buffer.new (K.faults out.new))
-        result (problem_text prefix.now problem.now) }
+pub fn put_problem<K: Sink>(prefix: &[u8], problem: &Problem, out: &mut BufferedWriter<'_, K>)
+    ensures { Writes K.taken K.faults out.old out.new (problem_text prefix.now problem.now) }
 {
-    if let Err(failed) = put(&[prefix, b"ivp 1\n"], buffer, out) {
-        return Err(failed);
-    }
-    if let Err(failed) = put_axes(prefix, &problem.domain(), buffer, out) {
-        return Err(failed);
-    }
-    if let Err(failed) = put_terms(prefix, problem, buffer, out) {
-        return Err(failed);
-    }
-    put(&[prefix, b"end\n"], buffer, out)
+    out.write(&[prefix, b"ivp 1\n"]);
+    put_axes(prefix, &problem.domain(), out);
+    put_terms(prefix, problem, out);
+    out.write(&[prefix, b"end\n"]);
 }
 
-fn put_axes<K: Sink>(
-    prefix: &[u8],
-    domain: &Domain,
-    buffer: &mut Buffer,
-    out: &mut K,
-) -> Result<(), Failed>
-    ensures { Wrote (way (K.taken out.old) buffer.old (K.faults out.old)) (way (K.taken out.new) buffer.new (K.faults out.new))
-        result (flat_map (axis_text prefix.now) domain.now) }
+fn put_axes<K: Sink>(prefix: &[u8], domain: &Domain, out: &mut BufferedWriter<'_, K>)
+    ensures { Writes K.taken K.faults out.old out.new (flat_map (axis_text prefix.now) domain.now) }
 {
     for number in 0..domain.axes() {
-        if let Err(failed) = put_axis(prefix, &domain.axis(number), buffer, out) {
-            return Err(failed);
-        }
+        put_axis(prefix, &domain.axis(number), out);
     }
-    Ok(())
 }
 
 // The end of an axis, in thousandths.
@@ -65,15 +44,9 @@ fn end_of(number: i64) -> Milli
     }
 }
 
-fn put_axis<K: Sink>(
-    prefix: &[u8],
-    axis: &Axis,
-    buffer: &mut Buffer,
-    out: &mut K,
-) -> Result<(), Failed>
+fn put_axis<K: Sink>(prefix: &[u8], axis: &Axis, out: &mut BufferedWriter<'_, K>)
     requires { IsTrue (is_good_axis axis.now) }
-    ensures { Wrote (way (K.taken out.old) buffer.old (K.faults out.old)) (way (K.taken out.new) buffer.new (K.faults out.new))
-        result (axis_text prefix.now axis.now) }
+    ensures { Writes K.taken K.faults out.old out.new (axis_text prefix.now axis.now) }
 {
     let low = end_of(axis.low);
     let high = end_of(axis.high);
@@ -81,60 +54,40 @@ fn put_axis<K: Sink>(
     let high = print_milli(high);
     let mut digits = itoa::Buffer::new();
     let points = digits.format(axis.points).as_bytes();
-    put(
-        &[
-            prefix,
-            b"domain ",
-            axis.name.bytes(),
-            b":",
-            low.bytes(),
-            b":",
-            high.bytes(),
-            b":",
-            points,
-            b"\n",
-        ],
-        buffer,
-        out,
-    )
+    out.write(&[
+        prefix,
+        b"domain ",
+        axis.name.bytes(),
+        b":",
+        low.bytes(),
+        b":",
+        high.bytes(),
+        b":",
+        points,
+        b"\n",
+    ]);
 }
 
-fn put_terms<K: Sink>(
-    prefix: &[u8],
-    problem: &Problem,
-    buffer: &mut Buffer,
-    out: &mut K,
-) -> Result<(), Failed>
-    ensures { Wrote (way (K.taken out.old) buffer.old (K.faults out.old)) (way (K.taken out.new) buffer.new (K.faults out.new))
-        result (flat_map (term_text prefix.now (length problem.now.axes)) problem.now.terms) }
+fn put_terms<K: Sink>(prefix: &[u8], problem: &Problem, out: &mut BufferedWriter<'_, K>)
+    ensures { Writes K.taken K.faults out.old out.new (flat_map (term_text prefix.now (length problem.now.axes)) problem.now.terms) }
 {
     let axes = problem.domain().axes();
     for number in 0..problem.len() {
-        if let Err(failed) = put_term(
+        put_term(
             prefix,
             axes,
             problem.weight(number),
             problem.func(number),
-            buffer,
             out,
-        ) {
-            return Err(failed);
-        }
+        );
     }
-    Ok(())
 }
 
-fn put_weight<K: Sink>(
-    prefix: &[u8],
-    weight: u32,
-    buffer: &mut Buffer,
-    out: &mut K,
-) -> Result<(), Failed>
-    ensures { Wrote (way (K.taken out.old) buffer.old (K.faults out.old)) (way (K.taken out.new) buffer.new (K.faults out.new))
-        result (concat (prefix.now ∷ codes "function " ∷ unsigned_text weight ∷ codes "\n" ∷ [])) }
+fn put_weight<K: Sink>(prefix: &[u8], weight: u32, out: &mut BufferedWriter<'_, K>)
+    ensures { Writes K.taken K.faults out.old out.new (concat (prefix.now ∷ codes "function " ∷ unsigned_text weight ∷ codes "\n" ∷ [])) }
 {
     let weight = print_unsigned(weight as u64);
-    put(&[prefix, b"function ", weight.bytes(), b"\n"], buffer, out)
+    out.write(&[prefix, b"function ", weight.bytes(), b"\n"]);
 }
 
 // A function over `axes` axes: its weight, and then its pieces.
@@ -143,36 +96,22 @@ fn put_term<K: Sink>(
     axes: u32,
     weight: u32,
     func: &Func,
-    buffer: &mut Buffer,
-    out: &mut K,
-) -> Result<(), Failed>
+    out: &mut BufferedWriter<'_, K>,
+)
     requires { axes ≤ 4 }
-    ensures { Wrote (way (K.taken out.old) buffer.old (K.faults out.old)) (way (K.taken out.new) buffer.new (K.faults out.new))
-        result (term_text prefix.now axes (record { weight = weight; func = func.now })) }
+    ensures { Writes K.taken K.faults out.old out.new (term_text prefix.now axes (record { weight = weight; func = func.now })) }
 {
-    if let Err(failed) = put_weight(prefix, weight, buffer, out) {
-        return Err(failed);
-    }
-    put_pieces(prefix, axes, func, buffer, out)
+    put_weight(prefix, weight, out);
+    put_pieces(prefix, axes, func, out);
 }
 
-fn put_pieces<K: Sink>(
-    prefix: &[u8],
-    axes: u32,
-    func: &Func,
-    buffer: &mut Buffer,
-    out: &mut K,
-) -> Result<(), Failed>
+fn put_pieces<K: Sink>(prefix: &[u8], axes: u32, func: &Func, out: &mut BufferedWriter<'_, K>)
     requires { axes ≤ 4 }
-    ensures { Wrote (way (K.taken out.old) buffer.old (K.faults out.old)) (way (K.taken out.new) buffer.new (K.faults out.new))
-        result (flat_map (piece_text prefix.now axes) func.now.pieces) }
+    ensures { Writes K.taken K.faults out.old out.new (flat_map (piece_text prefix.now axes) func.now.pieces) }
 {
     for number in 0..func.len() {
-        if let Err(failed) = put_piece(prefix, axes, &func.piece(number), buffer, out) {
-            return Err(failed);
-        }
+        put_piece(prefix, axes, &func.piece(number), out);
     }
-    Ok(())
 }
 
 // Low and high on each axis, one axis after the other.
@@ -185,29 +124,14 @@ fn ends_of(area: &BoxN) -> [u32; 8]
     ]
 }
 
-fn put_piece<K: Sink>(
-    prefix: &[u8],
-    axes: u32,
-    piece: &Piece,
-    buffer: &mut Buffer,
-    out: &mut K,
-) -> Result<(), Failed>
+fn put_piece<K: Sink>(prefix: &[u8], axes: u32, piece: &Piece, out: &mut BufferedWriter<'_, K>)
     requires { axes ≤ 4 }
-    ensures { Wrote (way (K.taken out.old) buffer.old (K.faults out.old)) (way (K.taken out.new) buffer.new (K.faults out.new))
-        result (piece_text prefix.now axes piece.now) }
+    ensures { Writes K.taken K.faults out.old out.new (piece_text prefix.now axes piece.now) }
 {
     let axes = axes as usize;
-    if let Err(failed) = put(&[prefix, b"piece"], buffer, out) {
-        return Err(failed);
-    }
-    if let Err(failed) = put_numbers(&ends_of(&piece.area)[..2 * axes], buffer, out) {
-        return Err(failed);
-    }
-    if let Err(failed) = put_integer(&piece.base, buffer, out) {
-        return Err(failed);
-    }
-    if let Err(failed) = put_integers(&piece.slope[..axes], buffer, out) {
-        return Err(failed);
-    }
-    put(&[b"\n"], buffer, out)
+    out.write(&[prefix, b"piece"]);
+    put_numbers(&ends_of(&piece.area)[..2 * axes], out);
+    put_integer(&piece.base, out);
+    put_integers(&piece.slope[..axes], out);
+    out.write(&[b"\n"]);
 }

@@ -1,7 +1,6 @@
 -- Lemmas on the parts of a report.
-use Rattle.std.proofs.Common.{◌≡◌, ℕ, zero, suc, Bool, true, false, ◌+◌, ◌-◌, ◌<◌, ◌≤◌, ◌&&◌, ◌||◌, not, cond, Some, None, List, [], ◌∷◌, ◌++◌, map, flat_map, length, take, drop, refl, ap, sym, ◌∙◌, arith, add-one, codes, decimal, length-take, length-take-le, append-nil, Option}
-use Rattle.std.specs.Prelude.{slice_get, option_map, if◌then◌else◌, OnErr, Result, Ok, Err}
-use Rattle.std.specs.Result.{IsErrAnd}
+use Rattle.std.proofs.Common.{◌≡◌, ℕ, zero, suc, Bool, true, false, ◌+◌, ◌-◌, ◌<◌, ◌≤◌, ◌&&◌, ◌||◌, not, cond, Some, None, List, [], ◌∷◌, ◌++◌, map, flat_map, length, take, drop, refl, ap, sym, ◌∙◌, arith, add-one, codes, decimal, length-take, length-take-le}
+use Rattle.std.specs.Prelude.{slice_get, option_map, if◌then◌else◌}
 use Rattle.std.specs.List.{concat, filter}
 use Rattle.std.proofs.Math.Seq.{drop-cons, take-suc}
 use Rattle.std.proofs.lemmas.List.{append_assoc}
@@ -9,10 +8,6 @@ use Rattle.std.proofs.lemmas.List.Folds.{concat-append}
 use Rattle.std.proofs.lemmas.List.Filters.{length-filter_more}
 use Rattle.std.proofs.lemmas.List.Sums.{length-filter}
 use Rattle.std.proofs.lemmas.Option.{get_or_from_slice_get, slice_get_past, slice_get_within}
-use Rattle.moos_io.specs.declared.sink.Failed.{Failed}
-use Rattle.moos_io.specs.Faults.{Faring, FaresOn, Fell}
-use Rattle.moos_io.specs.Pieces.{Took, TookFront}
-use Rattle.moos_io.specs.Writing.{Way, Went, Stopped, way, Wrote}
 use Rattle.moos_post.specs.declared.entry.Call.TheVariants.{Post as Posts, Fetch}
 use Rattle.moos_post.specs.declared.entry.Entry.{Entry}
 use Rattle.moos_post.specs.declared.value.Pair.{Pair}
@@ -175,14 +170,6 @@ letter_is names posts first number {origin = origin} {pair = pair} below =
           rw (same_origin, same_pair) refl
     ])
 
--- a text that a sink took whole, without a buffer that held anything before or after
-pub went_whole : {before now : Option (List ℕ)} {faring after : Faring} {text : List ℕ} → Took before now text → FaresOn faring after → Went (way before [] faring) (way now [] after) text
-went_whole {text = text} took later = record { piece = text; took = took; rest = append-nil text; later = later }
-
-pub stopped_whole : {before now : Option (List ℕ)} {faring after : Faring} {text : List ℕ} → TookFront before now text → FaresOn faring after → Fell faring after now
-    → Stopped (way before [] faring) (way now [] after) text
-stopped_whole front later rose = record { front = front; later = later; rose = rose }
-
 -- the line of a letter, whose front is written with that of its post
 pub mail_line : (digits : List ℕ) (stamp : ℕ) (var source value : List ℕ) →
     concat (codes "%% mail " ∷ digits ∷ codes " " ∷ unsigned_text stamp ∷ codes " " ∷ var ∷ codes " " ∷ source ∷ codes " " ∷ []) ++ value
@@ -191,12 +178,3 @@ mail_line digits stamp var source value =
     let front = codes "%% mail " ∷ digits ∷ codes " " ∷ [] in
     let said = unsigned_text stamp ∷ codes " " ∷ var ∷ codes " " ∷ source ∷ codes " " ∷ [] in
     ap (λ line. line ++ value) (concat-append front said) ∙ append_assoc (concat front) (concat said) value
-
--- what stands at the exit of a `?`
-pub err_any : {E P : Type 0} (result : Result (Unit {0}) E) → P → OnErr result P
-err_any (Ok _) so = tt
-err_any (Err _) so = so
-
-pub wrote_err : {a c : Way} {text : List ℕ} (Q : Failed → Type 0) (result : Result (Unit {0}) Failed) → IsErrAnd result Q → Stopped a c text → Wrote a c result text
-wrote_err Q (Ok _) is stopped = absurd is
-wrote_err Q (Err _) is stopped = record { ok = tt; front = stopped }

@@ -1,12 +1,11 @@
 // The text of a decision, kept as it was printed: what an iteration decides as the one before did isn't formatted anew.
 ghost use Rattle.std.specs.Prelude.{◌≡◌, IfSome, IsTrue, codes};
-ghost use Rattle.moos_io.specs.Writing.{Wrote, way};
+ghost use Rattle.moos_io.specs.BufferedWriting.{Writes};
 ghost use Rattle.ivp_cert.specs.Texts.{decision_lines};
 
-use crate::lines::put;
 use crate::same::same_decision;
 use ivp_cert::{Decision, print_decision, put_decision};
-use moos_io::{Buffer, Failed, MemSink, Sink};
+use moos_io::{BufferedWriter, MemSink, Sink};
 use moos_post::Copied;
 use std::alloc::Global;
 use std::marker::Model;
@@ -92,23 +91,19 @@ impl LastText {
 
     // Writes the decision, each line behind `%% `: the kept text if it is of the same decision, or else a new one, which is kept
     // from now on if there is memory.
-    pub(crate) fn put<K: Sink>(
-        &mut self,
-        decision: &Decision,
-        buffer: &mut Buffer,
-        out: &mut K,
-    ) -> Result<(), Failed>
-        ensures { Wrote (way (K.taken out.old) buffer.old (K.faults out.old)) (way (K.taken out.new) buffer.new (K.faults out.new))
-            result (decision_lines (codes "%% ") decision.now) }
+    pub(crate) fn put<K: Sink>(&mut self, decision: &Decision, out: &mut BufferedWriter<'_, K>)
+        ensures { Writes K.taken K.faults out.old out.new (decision_lines (codes "%% ") decision.now) }
     {
-        match &self.printed {
-            Some(last) if last.is_of(decision) => return put(&[last.bytes()], buffer, out),
-            _ => {}
+        if let Some(last) = &self.printed {
+            if last.is_of(decision) {
+                out.write(&[last.bytes()]);
+                return;
+            }
         }
         self.printed = DecisionText::make(self.alloc, decision);
         match &self.printed {
-            Some(last) => put(&[last.bytes()], buffer, out),
-            None => put_decision(b"%% ", decision, buffer, out),
+            Some(last) => out.write(&[last.bytes()]),
+            None => put_decision(b"%% ", decision, out),
         }
     }
 }

@@ -1,19 +1,18 @@
 // The helm's iterations, each behind the Post entry that it ended in.
 ghost use Rattle.std.specs.Prelude.{◌≡◌, ◌+◌, ◌<◌, ◌≤◌, ◌^◌, [], drop, if◌then◌else◌, take};
-ghost use Rattle.moos_io.specs.Writing.{Wrote, way};
+ghost use Rattle.moos_io.specs.BufferedWriting.{Writes};
 ghost use Rattle.helm_core.specs.Posts.{state_word};
 ghost use Rattle.moos_report.specs.IterationLines.{current_text, decided_text, fetches_first, helm_fetches, is_helm, is_helm_fetch, is_helm_post, iteration_text, mode_line, shown_mode, state_line};
 ghost use Rattle.moos_report.specs.Parts.{BeginsWith};
 
 use super::behaviors::{put_errors, put_states, put_updates};
-use super::lines::put;
 use super::name_of;
 use crate::decided::LastText;
 use crate::setup::Setup;
 use helm_core::Iteration;
 use ivp_cert::Decision;
 use moos_db::Db;
-use moos_io::{Buffer, Failed, Sink};
+use moos_io::{BufferedWriter, Sink};
 use moos_post::{Call, Entry};
 use moos_text::print_unsigned;
 
@@ -26,16 +25,14 @@ pub(super) fn put_outcome<K: Sink>(
     entry: &Entry,
     fetches: u64,
     last: &mut LastText,
-    buffer: &mut Buffer,
-    out: &mut K,
-) -> Result<(), Failed>
-    ensures { Wrote (way (K.taken out.old) buffer.old (K.faults out.old)) (way (K.taken out.new) buffer.new (K.faults out.new))
-        result (if is_helm_post db.now.names entry.now then current_text setup.now first iterations.now fetches else []) }
+    out: &mut BufferedWriter<'_, K>,
+)
+    ensures { Writes K.taken K.faults out.old out.new (if is_helm_post db.now.names entry.now then current_text setup.now first iterations.now fetches else []) }
 {
     if !is_helm_post(db, entry) {
-        return Ok(());
+        return;
     }
-    put_current(setup, first, iterations, fetches, last, buffer, out)
+    put_current(setup, first, iterations, fetches, last, out);
 }
 
 // How often the helm has fetched before entry `from`, if `many` iterations are given. Only if a part begins within a tick,
@@ -118,19 +115,17 @@ fn put_current<K: Sink>(
     iterations: &[Iteration],
     fetches: u64,
     last: &mut LastText,
-    buffer: &mut Buffer,
-    out: &mut K,
-) -> Result<(), Failed>
-    ensures { Wrote (way (K.taken out.old) buffer.old (K.faults out.old)) (way (K.taken out.new) buffer.new (K.faults out.new))
-        result (current_text setup.now first iterations.now fetches) }
+    out: &mut BufferedWriter<'_, K>,
+)
+    ensures { Writes K.taken K.faults out.old out.new (current_text setup.now first iterations.now fetches) }
 {
     if fetches <= first {
-        return Ok(());
+        return;
     }
     let number = fetches - 1;
     match iterations.get((number - first) as usize) {
-        Some(iteration) => put_iteration(setup, number, iteration, last, buffer, out),
-        None => Ok(()),
+        Some(iteration) => put_iteration(setup, number, iteration, last, out),
+        None => {}
     }
 }
 
@@ -140,62 +135,48 @@ fn put_iteration<K: Sink>(
     number: u64,
     iteration: &Iteration,
     last: &mut LastText,
-    buffer: &mut Buffer,
-    out: &mut K,
-) -> Result<(), Failed>
-    ensures { Wrote (way (K.taken out.old) buffer.old (K.faults out.old)) (way (K.taken out.new) buffer.new (K.faults out.new))
-        result (iteration_text setup.now number iteration.now) }
+    out: &mut BufferedWriter<'_, K>,
+)
+    ensures { Writes K.taken K.faults out.old out.new (iteration_text setup.now number iteration.now) }
 {
-    put_state(number, iteration, buffer, out)?;
-    put_mode(setup, iteration.mode.bytes(), buffer, out)?;
-    put_updates(iteration.updates.all(), buffer, out)?;
-    put_states(iteration.states.all(), buffer, out)?;
-    put_errors(iteration.faults.all(), buffer, out)?;
-    put_decided(&iteration.decision, last, buffer, out)
+    put_state(number, iteration, out);
+    put_mode(setup, iteration.mode.bytes(), out);
+    put_updates(iteration.updates.all(), out);
+    put_states(iteration.states.all(), out);
+    put_errors(iteration.faults.all(), out);
+    put_decided(&iteration.decision, last, out);
 }
 
 // What was decided, each line behind `%% `, by the text that was printed last if that is of the same decision.
 fn put_decided<K: Sink>(
     decision: &Option<Decision>,
     last: &mut LastText,
-    buffer: &mut Buffer,
-    out: &mut K,
-) -> Result<(), Failed>
-    ensures { Wrote (way (K.taken out.old) buffer.old (K.faults out.old)) (way (K.taken out.new) buffer.new (K.faults out.new))
-        result (decided_text decision.now) }
+    out: &mut BufferedWriter<'_, K>,
+)
+    ensures { Writes K.taken K.faults out.old out.new (decided_text decision.now) }
 {
     match decision {
-        Some(decision) => last.put(decision, buffer, out),
-        None => put(&[b"%% none\n"], buffer, out),
+        Some(decision) => last.put(decision, out),
+        None => out.write(&[b"%% none\n"]),
     }
 }
 
 // The line that says when an iteration was, and whether the helm drove.
-fn put_state<K: Sink>(
-    number: u64,
-    iteration: &Iteration,
-    buffer: &mut Buffer,
-    out: &mut K,
-) -> Result<(), Failed>
-    ensures { Wrote (way (K.taken out.old) buffer.old (K.faults out.old)) (way (K.taken out.new) buffer.new (K.faults out.new))
-        result (state_line number iteration.now) }
+fn put_state<K: Sink>(number: u64, iteration: &Iteration, out: &mut BufferedWriter<'_, K>)
+    ensures { Writes K.taken K.faults out.old out.new (state_line number iteration.now) }
 {
     let mut digits = itoa::Buffer::new();
     let number = digits.format(number).as_bytes();
     let stamp = print_unsigned(iteration.stamp);
-    put(
-        &[
-            b"%% iteration ",
-            number,
-            b" ",
-            stamp.bytes(),
-            b" ",
-            drive_text(iteration.parked),
-            b"\n",
-        ],
-        buffer,
-        out,
-    )
+    out.write(&[
+        b"%% iteration ",
+        number,
+        b" ",
+        stamp.bytes(),
+        b" ",
+        drive_text(iteration.parked),
+        b"\n",
+    ]);
 }
 
 fn drive_text(parked: bool) -> &'static [u8]
@@ -205,19 +186,13 @@ fn drive_text(parked: bool) -> &'static [u8]
 }
 
 // The line of the mode, if modes are declared.
-fn put_mode<K: Sink>(
-    setup: &Setup,
-    mode: &[u8],
-    buffer: &mut Buffer,
-    out: &mut K,
-) -> Result<(), Failed>
-    ensures { Wrote (way (K.taken out.old) buffer.old (K.faults out.old)) (way (K.taken out.new) buffer.new (K.faults out.new))
-        result (mode_line setup.now mode.now) }
+fn put_mode<K: Sink>(setup: &Setup, mode: &[u8], out: &mut BufferedWriter<'_, K>)
+    ensures { Writes K.taken K.faults out.old out.new (mode_line setup.now mode.now) }
 {
     if !setup.modes {
-        return Ok(());
+        return;
     }
-    put(&[b"%% mode ", shown_mode(mode), b"\n"], buffer, out)
+    out.write(&[b"%% mode ", shown_mode(mode), b"\n"]);
 }
 
 // What a mode prints as: the empty one as `-`.

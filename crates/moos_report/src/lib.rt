@@ -2,8 +2,9 @@
 //! iteration of the helm.
 //!
 //! The contract for the layers above: the report, or a part of one, goes to a sink whole, or a front of it if the sink
-//! fails, and then the sink's faults rose. The text is gathered in a buffer on the stack, and what is full goes on. No memory
-//! is taken but for the text that a caller lets be kept, and what there is no memory for isn't kept.
+//! fails, and then the sink's faults rose; one that succeeds leaves them as they were. What is written through a caller's writer
+//! is on its way, and the caller ends it. No memory is taken but for the text that a caller lets be kept, and what there is no
+//! memory for isn't kept.
 //!
 //! Reading order: `specs/Report` and `specs/IterationLines` say what each line is; here are the entries and their parts, in
 //! `posts` the posts and letters of these, in `kept` what is kept of the text, in `iterations` what follows an entry of the helm, in
@@ -15,7 +16,7 @@
 
 ghost use Rattle.std.specs.Prelude.{◌≡◌, ◌++◌, [], ◌∷◌, Some, length, take, drop, flat_map, codes, decimal, slice_get};
 ghost use Rattle.std.specs.List.{concat};
-ghost use Rattle.moos_io.specs.Writing.{Wrote, way};
+ghost use Rattle.moos_io.specs.BufferedWriting.{Writes};
 ghost use Rattle.moos_post.specs.History.{name_of, posts_of, posts_of_entry};
 ghost use Rattle.moos_text.specs.Numbers.{unsigned_text};
 ghost use Rattle.moos_report.specs.Parts.{BeginsWith};
@@ -38,67 +39,61 @@ use self::iterations::{fetches_after, fetches_before, put_outcome};
 pub use self::kept::KeptText;
 use self::kept::PostLines;
 pub use self::law::{parts_law, report_law, reports_law};
-use self::lines::{put, put_client, put_reg, put_unused};
+use self::lines::{put_client, put_reg, put_unused};
 pub use self::parts::{
-    report, report_end, report_head, report_keeping, report_part, report_part_through,
+    put_ending, put_head, put_report, report, report_end, report_head, report_keeping, report_part,
 };
 use self::posts::{keep_lines, put_batch, put_fetch};
 pub use self::setup::{Setup, setup_without_helm};
 use bhv_file::Unused;
 use helm_core::Iteration;
 use moos_db::Db;
-use moos_io::{Buffer, Failed, Sink};
+use moos_io::{BufferedWriter, Sink};
 use moos_post::{Call, Entry, Pattern, Reg};
 use moos_text::print_unsigned;
 
-fn put_clients<K: Sink>(db: &Db, buffer: &mut Buffer, out: &mut K) -> Result<(), Failed>
-    ensures { Wrote (way (K.taken out.old) buffer.old (K.faults out.old)) (way (K.taken out.new) buffer.new (K.faults out.new))
-        result (clients_text 0 db.now.names) }
+fn put_clients<K: Sink>(db: &Db, out: &mut BufferedWriter<'_, K>)
+    ensures { Writes K.taken K.faults out.old out.new (clients_text 0 db.now.names) }
 {
     for number in 0..db.clients() {
-        put_client(number, db.name(number), buffer, out)?;
+        put_client(number, db.name(number), out);
     }
-    Ok(())
 }
 
-fn put_unused_list<K: Sink>(
-    unused: &[Unused],
-    buffer: &mut Buffer,
-    out: &mut K,
-) -> Result<(), Failed>
-    ensures { Wrote (way (K.taken out.old) buffer.old (K.faults out.old)) (way (K.taken out.new) buffer.new (K.faults out.new))
-        result (flat_map unused_text unused.now) }
+fn put_unused_list<K: Sink>(unused: &[Unused], out: &mut BufferedWriter<'_, K>)
+    ensures { Writes K.taken K.faults out.old out.new (flat_map unused_text unused.now) }
 {
     for parameter in unused {
-        put_unused(parameter, buffer, out)?;
+        put_unused(parameter, out);
     }
-    Ok(())
 }
 
-// The entries from number `from` on, and behind them the iterations that they end, the first of which has the number `first`.
-fn put_entries<K: Sink>(
+/// Writes the entries from number `from` on through a writer, as `report_part` does, and keeps what is printed again if there is memory.
+/// Once the sink has failed, no further entry is looked at.
+pub fn put_entries<K: Sink>(
     setup: &Setup,
     db: &Db,
     from: u64,
     first: u64,
     iterations: &[Iteration],
     kept: &mut KeptText,
-    buffer: &mut Buffer,
-    out: &mut K,
-) -> Result<(), Failed>
+    out: &mut BufferedWriter<'_, K>,
+)
     requires first { BeginsWith db.now.names (take from db.now.history) first (length iterations.now) (drop from db.now.history) }
     requires kept { KeepsLines db.now.names db.now.history kept.old }
     ensures kept { KeepsLines db.now.names db.now.history kept.new }
-    ensures wrote { Wrote (way (K.taken out.old) buffer.old (K.faults out.old)) (way (K.taken out.new) buffer.new (K.faults out.new))
-        result (entries_text setup.now first iterations.now db.now.names (take from db.now.history) (drop from db.now.history)) }
+    ensures wrote { Writes K.taken K.faults out.old out.new (entries_text setup.now first iterations.now db.now.names (take from db.now.history) (drop from db.now.history)) }
 {
     let _ = db.posts();
     let mut posts = posts_before(db, from);
     let mut fetches = fetches_before(db, from, first, iterations.len());
     for k in from..db.entries() {
+        if out.failed() {
+            return;
+        }
         let entry = db.entry(k);
         keep_lines(db, k, entry, posts, &mut kept.lines);
-        put_entry(db, k, entry, posts, &kept.lines, buffer, out)?;
+        put_entry(db, k, entry, posts, &kept.lines, out);
         put_outcome(
             setup,
             db,
@@ -107,13 +102,11 @@ fn put_entries<K: Sink>(
             entry,
             fetches,
             &mut kept.last,
-            buffer,
             out,
-        )?;
+        );
         posts += posts_in(entry);
         fetches = fetches_after(db, entry, fetches);
     }
-    Ok(())
 }
 
 // How many posts the entries before this one made.
@@ -144,17 +137,15 @@ fn put_entry<K: Sink>(
     entry: &Entry,
     first: u64,
     lines: &PostLines,
-    buffer: &mut Buffer,
-    out: &mut K,
-) -> Result<(), Failed>
+    out: &mut BufferedWriter<'_, K>,
+)
     requires at { slice_get db.now.history k ≡ Some entry.now }
     requires behind { first ≡ length (posts_of (take k db.now.history)) }
     requires kept { KeepsLines db.now.names db.now.history lines.now }
-    ensures { Wrote (way (K.taken out.old) buffer.old (K.faults out.old)) (way (K.taken out.new) buffer.new (K.faults out.new))
-        result (entry_text db.now.names (take k db.now.history) entry.now) }
+    ensures { Writes K.taken K.faults out.old out.new (entry_text db.now.names (take k db.now.history) entry.now) }
 {
-    put_asking(k, entry.stamp, name_of(db, entry.client), buffer, out)?;
-    put_call(db, k, entry, first, lines, buffer, out)
+    put_asking(k, entry.stamp, name_of(db, entry.client), out);
+    put_call(db, k, entry, first, lines, out);
 }
 
 // The client's name, or nothing for a number that no client has.
@@ -169,30 +160,19 @@ fn name_of(db: &Db, client: u32) -> &[u8]
 }
 
 // What is before the call on the line of an entry.
-fn put_asking<K: Sink>(
-    k: u64,
-    stamp: u64,
-    client: &[u8],
-    buffer: &mut Buffer,
-    out: &mut K,
-) -> Result<(), Failed>
-    ensures { Wrote (way (K.taken out.old) buffer.old (K.faults out.old)) (way (K.taken out.new) buffer.new (K.faults out.new))
-        result (concat (codes "%% entry " ∷ decimal k ∷ codes " " ∷ unsigned_text stamp ∷ codes " " ∷ client.now ∷ [])) }
+fn put_asking<K: Sink>(k: u64, stamp: u64, client: &[u8], out: &mut BufferedWriter<'_, K>)
+    ensures { Writes K.taken K.faults out.old out.new (concat (codes "%% entry " ∷ decimal k ∷ codes " " ∷ unsigned_text stamp ∷ codes " " ∷ client.now ∷ [])) }
 {
     let mut digits = itoa::Buffer::new();
     let stamp = print_unsigned(stamp);
-    put(
-        &[
-            b"%% entry ",
-            digits.format(k).as_bytes(),
-            b" ",
-            stamp.bytes(),
-            b" ",
-            client,
-        ],
-        buffer,
-        out,
-    )
+    out.write(&[
+        b"%% entry ",
+        digits.format(k).as_bytes(),
+        b" ",
+        stamp.bytes(),
+        b" ",
+        client,
+    ]);
 }
 
 fn put_call<K: Sink>(
@@ -201,68 +181,52 @@ fn put_call<K: Sink>(
     entry: &Entry,
     first: u64,
     lines: &PostLines,
-    buffer: &mut Buffer,
-    out: &mut K,
-) -> Result<(), Failed>
+    out: &mut BufferedWriter<'_, K>,
+)
     requires at { slice_get db.now.history k ≡ Some entry.now }
     requires behind { first ≡ length (posts_of (take k db.now.history)) }
     requires kept { KeepsLines db.now.names db.now.history lines.now }
-    ensures { Wrote (way (K.taken out.old) buffer.old (K.faults out.old)) (way (K.taken out.new) buffer.new (K.faults out.new))
-        result (call_text db.now.names (take k db.now.history) entry.now entry.now.call) }
+    ensures { Writes K.taken K.faults out.old out.new (call_text db.now.names (take k db.now.history) entry.now entry.now.call) }
 {
     let _ = db.posts();
     match &entry.call {
-        Call::Register(regs) => put_register(regs.all(), buffer, out),
-        Call::Unregister(var, source) => put_unregister(var, source, buffer, out),
+        Call::Register(regs) => put_register(regs.all(), out),
+        Call::Unregister(var, source) => put_unregister(var, source, out),
         Call::Post(batch) => put_batch(
             first,
             entry.stamp,
             name_of(db, entry.client),
             batch.all(),
             lines,
-            buffer,
             out,
         ),
-        Call::Fetch => put_fetch(db, first, db.letters(k), lines, buffer, out),
+        Call::Fetch => put_fetch(db, first, db.letters(k), lines, out),
     }
 }
 
-fn put_register<K: Sink>(regs: &[Reg], buffer: &mut Buffer, out: &mut K) -> Result<(), Failed>
-    ensures { Wrote (way (K.taken out.old) buffer.old (K.faults out.old)) (way (K.taken out.new) buffer.new (K.faults out.new))
-        result (codes " register\n" ++ flat_map reg_text regs.now) }
+fn put_register<K: Sink>(regs: &[Reg], out: &mut BufferedWriter<'_, K>)
+    ensures { Writes K.taken K.faults out.old out.new (codes " register\n" ++ flat_map reg_text regs.now) }
 {
-    put(&[b" register\n"], buffer, out)?;
-    put_regs(regs, buffer, out)
+    out.write(&[b" register\n"]);
+    put_regs(regs, out);
 }
 
-fn put_regs<K: Sink>(regs: &[Reg], buffer: &mut Buffer, out: &mut K) -> Result<(), Failed>
-    ensures { Wrote (way (K.taken out.old) buffer.old (K.faults out.old)) (way (K.taken out.new) buffer.new (K.faults out.new))
-        result (flat_map reg_text regs.now) }
+fn put_regs<K: Sink>(regs: &[Reg], out: &mut BufferedWriter<'_, K>)
+    ensures { Writes K.taken K.faults out.old out.new (flat_map reg_text regs.now) }
 {
     for reg in regs {
-        put_reg(reg, buffer, out)?;
+        put_reg(reg, out);
     }
-    Ok(())
 }
 
-fn put_unregister<K: Sink>(
-    var: &Pattern,
-    source: &Pattern,
-    buffer: &mut Buffer,
-    out: &mut K,
-) -> Result<(), Failed>
-    ensures { Wrote (way (K.taken out.old) buffer.old (K.faults out.old)) (way (K.taken out.new) buffer.new (K.faults out.new))
-        result (concat (codes " unregister\n%% reg " ∷ var.now ∷ codes " " ∷ source.now ∷ codes "\n" ∷ [])) }
+fn put_unregister<K: Sink>(var: &Pattern, source: &Pattern, out: &mut BufferedWriter<'_, K>)
+    ensures { Writes K.taken K.faults out.old out.new (concat (codes " unregister\n%% reg " ∷ var.now ∷ codes " " ∷ source.now ∷ codes "\n" ∷ [])) }
 {
-    put(
-        &[
-            b" unregister\n%% reg ",
-            var.bytes(),
-            b" ",
-            source.bytes(),
-            b"\n",
-        ],
-        buffer,
-        out,
-    )
+    out.write(&[
+        b" unregister\n%% reg ",
+        var.bytes(),
+        b" ",
+        source.bytes(),
+        b"\n",
+    ]);
 }

@@ -1,9 +1,7 @@
-use Rattle.std.proofs.Common.{◌≡◌, List, ℕ, [], ◌∷◌, ◌++◌, flat_map, ap, subst, ◌∙◌}
+use Rattle.std.proofs.Common.{◌≡◌, List, ℕ, [], ◌∷◌, ◌++◌, flat_map, ap, ◌∙◌}
 use Rattle.std.specs.Prelude.{codes, decimal}
 use Rattle.std.specs.List.{concat}
-use Rattle.moos_io.specs.Writing.{Wrote}
-use Rattle.moos_io.proofs.Writing.{stopped_before}
-use Rattle.moos_io.proofs.Passages.{stopped_as, wrote_on}
+use Rattle.moos_io.proofs.BufferedWriting.{writes_as, writes_on}
 use Rattle.moos_text.specs.Numbers.{unsigned_text}
 use Rattle.ivp_cert.specs.Texts.{line_text, number_word}
 use Rattle.ivp_cert.specs.declared.cert.Line.{Line}
@@ -16,12 +14,7 @@ whole prefix path line is =
     let rest : List ℕ = concat (codes " : " ∷ unsigned_text line.sum ∷ codes " " ∷ decimal line.index ∷ codes "\n" ∷ []) in
     ap (λ t. concat (prefix ∷ codes "cut" ∷ t ∷ []) ++ rest) is ∙ line_begun prefix (flat_map number_word line.path) rest
 
-pub returns-in-Err : goal.returns-in-Err
-returns-in-Err g c =
-    let is = c.of-path.ensures ∙ ap (flat_map number_word) c.all.ensures.all in
-    record { ok = tt; front = stopped_as (whole c.args.prefix.now c.of-path.result.now c.args.line.now is) (stopped_before _ c.in-Err.ensures.front) }
-
 pub returns : goal.returns
 returns g c =
     let is = c.of-path.ensures ∙ ap (flat_map number_word) c.all.ensures.all in
-    subst (Wrote _ _ c.put_bound.result) (whole c.args.prefix.now c.of-path.result.now c.args.line.now is) (wrote_on c.put_bound.result c.in_default.ensures.ok c.put_bound.ensures)
+    writes_as (whole c.args.prefix.now c.of-path.result.now c.args.line.now is) (writes_on c.write.ensures c.put_bound.ensures)

@@ -1,8 +1,8 @@
-use Rattle.moos_io.proofs.Passages.{took_whole, took_front}
+use Rattle.std.proofs.Common.{rules}
+use Rattle.moos_io.proofs.BufferedWriting.{delivered}
 use Rattle.ivp_cert.proofs.print_by_workers.print_decision_by_workers.Goals as goal
 
-pub returns-in-Err-flush-clause-front : goal.returns-in-Err-flush-clause-front
-returns-in-Err-flush-clause-front g c = took_front c.new-buffer.ensures c.in_default.ensures.ok c.in-Err-flush.ensures.front
-
-pub returns-clause-ok : goal.returns-clause-ok
-returns-clause-ok g c = took_whole c.new-buffer.ensures c.flush.ensures.empty c.in_default.ensures.ok c.in_default-flush.ensures.ok
+pub returns : goal.returns
+returns g c =
+    let told = rw c.new-writer.ensures.now at (delivered c.finish.result c.new-writer.ensures.going c.new-writer.ensures.empty c.put_decision.ensures c.finish.ensures) in
+    search (rules, told)

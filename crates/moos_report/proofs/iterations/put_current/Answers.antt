@@ -2,13 +2,13 @@ use Rattle.std.proofs.Common.{◌≡◌, ◌-◌, ◌≤◌, Some, length, ap, s
 use Rattle.std.specs.Prelude.{slice_get}
 use Rattle.std.proofs.lemmas.Bool.Decides.{nat_tests}
 use Rattle.std.proofs.lemmas.Option.{slice_get-get_or, slice_get_past}
-use Rattle.moos_io.proofs.Passages.{went_none}
+use Rattle.moos_io.proofs.BufferedWriting.{writes_none}
 use Rattle.moos_report.proofs.Reporting.{current_is, current_none}
 use Rattle.moos_report.proofs.iterations.put_current.Goals as goal
 
 pub returns-then-fetches-first : goal.returns-then-fetches-first
 returns-then-fetches-first g c =
-    record { ok = rw (current_none c.args.setup.now c.args.first c.args.iterations.now c.args.fetches c.if-fetches-first.true) (went_none _); front = tt }
+    rw (current_none c.args.setup.now c.args.first c.args.iterations.now c.args.fetches c.if-fetches-first.true) (writes_none _)
 
 pub returns-in-Some : goal.returns-in-Some
 returns-in-Some g c =
@@ -23,4 +23,4 @@ returns-in-None g c =
     let place = c.args.fetches - 1 - c.args.first in
     let past : length c.args.iterations.now ≤ place = grind (arith, nat_tests, c.in-None.ensures.lookup.0) in
     rw (current_is c.args.setup.now c.args.first c.args.iterations.now c.args.fetches c.if-fetches-first.false, slice_get_past c.args.iterations.now place past)
-    (record { ok = went_none _; front = tt })
+    (writes_none _)

@@ -1,9 +1,8 @@
-use Rattle.moos_io.proofs.Passages.{took_whole, took_front}
-use Rattle.moos_report.proofs.Reporting.{err_any}
+use Rattle.std.proofs.Common.{rules}
+use Rattle.moos_io.proofs.BufferedWriting.{delivered}
 use Rattle.moos_report.proofs.parts.report_head.Goals as goal
 
-pub returns-in_err-flush-clause-front : goal.returns-in_err-flush-clause-front
-returns-in_err-flush-clause-front g c = err_any c.from_residual-in_err-flush.result (took_front c.new-buffer.ensures c.in_ok-put_head.ensures.ok c.in_err-flush.ensures.front)
-
-pub returns-clause-ok : goal.returns-clause-ok
-returns-clause-ok g c = took_whole c.new-buffer.ensures c.flush.ensures.empty c.in_ok-put_head.ensures.ok c.in_ok-flush.ensures.ok
+pub returns : goal.returns
+returns g c =
+    let told = rw c.new-writer.ensures.now at (delivered c.finish.result c.new-writer.ensures.going c.new-writer.ensures.empty c.put_head.ensures c.finish.ensures) in
+    search (rules, told)

@@ -2,10 +2,9 @@ use Rattle.std.proofs.Common.{◌∙◌, Some, ap, arith, map, sym}
 use Rattle.std.specs.Prelude.{option_map}
 use Rattle.std.proofs.lemmas.Option.{slice_get-get_or, slice_get-map}
 use Rattle.moos_post.specs.declared.value.Pair.{Pair}
+use Rattle.moos_io.proofs.BufferedWriting.{each_less}
 use Rattle.moos_report.specs.Report.{said_text}
-use Rattle.moos_io.proofs.Passages.{each_on, each_failed}
 use Rattle.moos_report.proofs.KeptLines.{line_from}
-use Rattle.moos_report.proofs.Reporting.{wrote_err}
 use Rattle.moos_report.proofs.posts.put_pairs.Goals as goal
 
 pub put_pair-requires : goal.put_pair-requires
@@ -20,9 +19,6 @@ overflow_add-number g c = omega (arith, c.requires.few, c.loop-pair.invariant.1,
 
 pub loop-pair-preserved : goal.loop-pair-preserved
 loop-pair-preserved g c = (
-  each_on (λ pair. said_text c.args.stamp c.args.source.now pair.var pair.value) c.args.pairs.now c.loop-pair.pair-index c.pair-item.result c.loop-pair.invariant.0 c.loop-pair-test.true c.pair-item.is c.in_ok-put_pair.ensures.ok,
+  each_less (λ pair. said_text c.args.stamp c.args.source.now pair.var pair.value) c.args.pairs.now c.loop-pair.pair-index c.pair-item.result c.loop-pair.invariant.0 c.loop-pair-test.true c.pair-item.is c.put_pair.ensures,
   omega (arith, c.loop-pair.invariant.1),
 )
-
-pub returns-in_err-put_pair : goal.returns-in_err-put_pair
-returns-in_err-put_pair g c = wrote_err _ c.from_residual.result c.from_residual.ensures.1 (each_failed (λ pair. said_text c.args.stamp c.args.source.now pair.var pair.value) c.args.pairs.now c.loop-pair.pair-index c.pair-item.result c.loop-pair.invariant.0 c.loop-pair-test.true c.pair-item.is c.in_err-put_pair.ensures.front)
