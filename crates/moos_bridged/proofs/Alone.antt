@@ -8,10 +8,10 @@ use Rattle.moos_client.specs.Calls.{entry_of, SeatState}
 use Rattle.moos_db.specs.declared.mail.Letter.{Letter}
 use Rattle.moos_post.specs.declared.entry.Call.{Call}
 use Rattle.moos_post.specs.declared.entry.Entry.{Entry}
-use Rattle.moos_step.proofs.Calling.{branch_mail, call_first, call_other, goes_on_just, IsJust}
+use Rattle.moos_step.proofs.Calling.{branch_mail, call_first, call_other, goes_on_just}
 use Rattle.moos_step.proofs.Leading.{IsLed, led_gathered, led_on}
 use Rattle.moos_step.proofs.Taking.{seen_gathered, seen_whole}
-use Rattle.moos_step.specs.Steps.{CommunityLock, HasSeenAll, IsAnswered, IsGathered, IsWhole, mail_of_call}
+use Rattle.moos_step.specs.Steps.{CommunityLock, HasSeenAll, IsAnswered, IsGathered, IsJust, IsWhole, mail_of_call}
 use Rattle.turn_lock.proofs.Fronts.{begins_itself, begins_on}
 use Rattle.turn_lock.proofs.Mets.{is_taken}
 use Rattle.turn_lock.specs.Passes.{Begins, beside, events_in, has_number, HasAll, met_with, without_number}

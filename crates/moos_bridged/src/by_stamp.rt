@@ -10,6 +10,7 @@ ghost use Rattle.script_reader.specs.declared.script.Order.TheVariants.{Stamp};
 
 use crate::community::Community;
 use crate::crossing::cross;
+use crate::second_gate::SecondGate;
 use moos_io::Gate;
 use moos_post::NoMemory;
 use moos_share::Bridge;
@@ -18,8 +19,8 @@ use std::alloc::Global;
 use std::sync::Wait;
 use std::thread::{Threads, join_mut};
 
-/// Takes the stamps of both scripts upward. At each all clients of both with lines there make their calls beside each other, and then
-/// the bridge carries once.
+/// Takes the stamps of both scripts upward. At each all clients of both with lines there make their calls, and then the bridge
+/// carries once.
 pub(crate) fn share_by_stamp<R: Threads + Wait + Sync, G: Gate>(
     rt: &R,
     alloc: Global,
@@ -62,8 +63,8 @@ fn share_next<R: Threads + Wait + Sync, G: Gate>(
     Ok(true)
 }
 
-// The clients of both communities make their calls of this stamp. If both have lines they do so beside each other; a thread
-// for nothing would cost more than the lines.
+// The clients of both communities make their calls of this stamp, those of the first before those of the second. If both have lines,
+// and one has a client with many, they do so beside each other.
 fn play_both<R: Threads + Wait + Sync, G: Gate>(
     rt: &R,
     alloc: Global,
@@ -77,9 +78,11 @@ fn play_both<R: Threads + Wait + Sync, G: Gate>(
     ensures one { OnOk result (IsResting one.new × HasPlayedStamp stamp one.old one.new) }
     ensures two { OnOk result (IsResting two.new × HasPlayedStamp stamp two.old two.new) }
 {
-    if one.next_stamp() != Some(stamp) || two.next_stamp() != Some(stamp) {
+    let second = SecondGate::behind(gate, one.bridge());
+    let heavy = one.is_heavy(stamp) || two.is_heavy(stamp);
+    if !heavy || one.next_stamp() != Some(stamp) || two.next_stamp() != Some(stamp) {
         one.play_stamp(rt, alloc, stamp, gate)?;
-        return two.play_stamp(rt, alloc, stamp, gate);
+        return two.play_stamp(rt, alloc, stamp, &second);
     }
     let (first, second) = join_mut(
         rt,
@@ -90,7 +93,7 @@ fn play_both<R: Threads + Wait + Sync, G: Gate>(
         &mut ||
             requires { IsSync R.row × IsSync G.row × IsResting two.now × IsTrue (list_all (λ line. nat_le stamp line.stamp) (left_lines two.now)) }
             ensures { OnOk result (IsResting two.exit.now × HasPlayedStamp stamp two.entry.now two.exit.now) }
-        { two.play_stamp(rt, alloc, stamp, gate) },
+        { two.play_stamp(rt, alloc, stamp, &second) },
     );
     both(&first, second)
 }

@@ -11,7 +11,7 @@ use moos_client::Lock;
 use moos_db::Db;
 use moos_io::Gate;
 use moos_post::{Call, Entry, NoMemory, Regs};
-use moos_step::{Player, call_alone, play_step};
+use moos_step::{HEAVY, Player, call_alone, has_heavy, play_step};
 use script_reader::Script;
 use std::alloc::Global;
 use std::sync::Wait;
@@ -99,7 +99,16 @@ impl<'a> Community<'a> {
         }
     }
 
-    /// The clients make their calls of this stamp, beside each other. No line of an earlier stamp is left.
+    /// Whether a client has so many lines of this stamp that it makes its calls there on a thread of its own.
+    pub(crate) fn is_heavy(&self, stamp: u64) -> bool
+        requires { IsResting self.now }
+    {
+        let lines = self.script.lines.all();
+        let to = stamp_end(lines, self.from, stamp);
+        has_heavy(&lines[self.from..to], HEAVY)
+    }
+
+    /// The clients make their calls of this stamp. No line of an earlier stamp is left.
     pub(crate) fn play_stamp<R: Threads + Wait + Sync, G: Gate>(
         &mut self,
         rt: &R,
@@ -114,17 +123,19 @@ impl<'a> Community<'a> {
     {
         let to = stamp_end(self.script.lines.all(), self.from, stamp);
         if self.from < to {
-            self.play_lines(rt, alloc, to, gate)?;
+            self.play_lines(rt, alloc, to, HEAVY, gate)?;
         }
         Ok(())
     }
 
-    /// The clients make their calls among the lines before this place, beside each other.
+    /// The clients make their calls among the lines before this place, beside each other if one of them has at least
+    /// `heavy` lines.
     pub(crate) fn play_lines<R: Threads + Wait + Sync, G: Gate>(
         &mut self,
         rt: &R,
         alloc: Global,
         to: usize,
+        heavy: usize,
         gate: &G,
     ) -> Result<(), NoMemory>
         requires resting { IsResting self.old }
@@ -136,7 +147,16 @@ impl<'a> Community<'a> {
     {
         let lines = &self.script.lines.all()[self.from..to];
         let calls = self.calls.as_mut_slice();
-        play_step(rt, alloc, &self.lock, &mut self.first, calls, lines, gate)?;
+        play_step(
+            rt,
+            alloc,
+            &self.lock,
+            &mut self.first,
+            calls,
+            lines,
+            heavy,
+            gate,
+        )?;
         self.from = to;
         Ok(())
     }
@@ -155,7 +175,7 @@ impl<'a> Community<'a> {
     {
         let to = self.script.lines.len();
         if self.from < to {
-            self.play_lines(rt, alloc, to, gate)?;
+            self.play_lines(rt, alloc, to, 1, gate)?;
         }
         Ok(())
     }

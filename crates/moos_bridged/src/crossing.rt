@@ -32,13 +32,13 @@ pub(crate) fn cross<R: Wait>(
     let first = &mut one.first.seat;
     if number == 0 {
         cross_from(rt, alloc, bridge, &one.lock, first, two, stamp)?;
-        see_all(rt, &one.lock, first);
+        see_all(&one.lock, first);
         return Ok(());
     }
     let mut from = one.lock.part(first, number);
     cross_from(rt, alloc, bridge, &one.lock, &mut from, two, stamp)?;
     one.lock.meet(first, from);
-    see_all(rt, &one.lock, first);
+    see_all(&one.lock, first);
     Ok(())
 }
 
@@ -63,12 +63,12 @@ fn cross_from<R: Wait>(
     let first = &mut two.first.seat;
     if number == 0 {
         bridge.carry(rt, alloc, lock, from, &two.lock, first, stamp)?;
-        see_all(rt, &two.lock, first);
+        see_all(&two.lock, first);
         return Ok(());
     }
     let mut to = two.lock.part(first, number);
     bridge.carry(rt, alloc, lock, from, &two.lock, &mut to, stamp)?;
     two.lock.meet(first, to);
-    see_all(rt, &two.lock, first);
+    see_all(&two.lock, first);
     Ok(())
 }

@@ -5,7 +5,7 @@
 //! renaming of a front of what the first mails to it, which leaves out no letter if no new name is too long (`bridged_law`).
 //!
 //! Reading order: `community`, one of the two; `crossing`, one carrying while nobody else calls; `by_stamp`, from one stamp to the
-//! next; `race`, all lines at once; `sharing`, the whole; `law`.
+//! next; `race`, all lines at once; `second_gate`, what the gate is told; `sharing`, the whole; `law`.
 #![tactic(auto)]
 
 mod by_stamp;
@@ -14,6 +14,7 @@ mod crossing;
 mod law;
 mod race;
 mod seating;
+mod second_gate;
 mod sharing;
 
 pub use law::{bridged_law, entries_law};

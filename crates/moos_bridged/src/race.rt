@@ -13,6 +13,7 @@ ghost use Rattle.script_reader.specs.declared.script.Order.TheVariants.{Race};
 
 use crate::community::Community;
 use crate::crossing::cross;
+use crate::second_gate::SecondGate;
 use moos_client::{Lock, Seat};
 use moos_io::Gate;
 use moos_post::{Entry, NoMemory};
@@ -79,7 +80,7 @@ fn race_alone<R: Threads + Wait + Sync, G: Gate>(
 {
     let to = &mut two.first.seat;
     race_first(rt, alloc, bridge, one, &two.lock, to, gate)?;
-    see_all(rt, &two.lock, to);
+    see_all(&two.lock, to);
     Ok(())
 }
 
@@ -116,7 +117,7 @@ fn race_both<R: Threads + Wait + Sync, G: Gate>(
     let calls = two.calls.as_mut_slice();
     let ended = take_in(&two.lock, &mut two.first.seat, calls, players);
     two.lock.meet(&mut two.first.seat, to);
-    see_all(rt, &two.lock, &mut two.first.seat);
+    see_all(&two.lock, &mut two.first.seat);
     both(&two.first.ended, ended)?;
     two.from = lines.len();
     Ok(())
@@ -143,6 +144,7 @@ fn race_beside<R: Threads + Wait + Sync, G: Gate>(
     ensures first { HasEnded lines.now first.old first.new }
     ensures players { AllZip (HasEnded lines.now) players.old.items players.new.items }
 {
+    let second = SecondGate::behind(gate, one.bridge());
     let (raced, ()) = join_mut(
         rt,
         &mut ||
@@ -152,7 +154,7 @@ fn race_beside<R: Threads + Wait + Sync, G: Gate>(
         &mut ||
             requires { IsSync R.row × IsSync G.row × MayCall lock.now first.now.seat × (first.now.seat.number ≡ 0) × All (λ player. IsApart lock.now player.seat) players.now.items }
             ensures { HasEnded lines.entry.now first.entry.now first.exit.now × AllZip (HasEnded lines.entry.now) players.entry.now.items players.exit.now.items }
-        { play_beside(rt, alloc, lock, first, players, lines, gate) },
+        { play_beside(rt, alloc, lock, first, players, lines, &second) },
     );
     raced
 }
@@ -192,7 +194,7 @@ fn race_first<R: Threads + Wait + Sync, G: Gate>(
     let calls = one.calls.as_mut_slice();
     let ended = take_in(&one.lock, &mut one.first.seat, calls, players);
     one.lock.meet(&mut one.first.seat, from);
-    see_all(rt, &one.lock, &mut one.first.seat);
+    see_all(&one.lock, &mut one.first.seat);
     both(&one.first.ended, ended)?;
     one.from = lines.len();
     Ok(())

@@ -29,15 +29,16 @@ pub struct Shared {
 
 /// Plays two scripts at once, each on its own database, with a bridge from the first community to the second.
 ///
-/// The clients of each script have the numbers in which their names are, and make their calls on threads of their own. The bridge
-/// is one more client of each, behind those, with the name `pShare`. It first registers in the first community for what its rules
-/// select, in one call at stamp 0.
+/// The clients of each script have the numbers in which their names are. The bridge is one more client of each, behind those, with the
+/// name `pShare`. It first registers in the first community for what its rules select, in one call at stamp 0.
 ///
 /// In order Stamp the stamps of both scripts are taken upward: at each all clients of both with lines there make their calls, and then
-/// the bridge carries once. In order Race each client makes all its calls without waiting for others, and beside them the bridge, on a
-/// thread of its own, carries once for each line of the first script, at its stamp; once all have made their calls it carries a last
-/// time, at the greater of both scripts' last stamps. The gate is called before each client's nth call, counted from 0, but not before
-/// the bridge's.
+/// the bridge carries once. The calls are made one after another, in the order of the first script's lines and then of the second's; if
+/// one of several clients has 64 lines there, or more, the clients of its script and the other script's make theirs beside each other.
+/// In order Race each client makes all its calls on a thread of its own, without waiting for others, and beside them the bridge
+/// carries once for each line of the first script, at its stamp; once all have made their calls it carries a last time, at the greater
+/// of both scripts' last stamps. The gate is called before each client's nth call, counted from 0, but not before the bridge's. It is
+/// told of a client of the second script by the number that follows those of the first script's clients.
 pub fn share<R: Threads + Wait + Sync, G: Gate>(
     rt: &R,
     alloc: Global,

@@ -189,6 +189,6 @@ pub(crate) fn lead<R: Threads + Wait + Sync, G: Gate>(
         lock.meet(first, seat);
         answer
     };
-    see_all(rt, lock, first);
+    see_all(lock, first);
     answer
 }

@@ -56,7 +56,7 @@ pub(crate) fn race<R: Threads + Wait + Sync, G: Gate>(
     );
     let others = take_in(lock, &mut first.seat, calls, players);
     lock.meet(&mut first.seat, seat);
-    see_all(rt, lock, &mut first.seat);
+    see_all(lock, &mut first.seat);
     both(&steered, both(&first.ended, others))
 }
 

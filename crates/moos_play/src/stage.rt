@@ -15,7 +15,7 @@ use crate::stamps::{due_end, tick_due};
 use moos_client::Lock;
 use moos_io::Gate;
 use moos_post::{List, Names, NoMemory};
-use moos_step::{Player, play_step};
+use moos_step::{HEAVY, Player, play_step};
 use script_reader::{Order, Script};
 use std::alloc::Global;
 use std::sync::Wait;
@@ -155,8 +155,18 @@ impl<'a> Stage<'a> {
         ensures helm { self.new.helm_client ≡ self.old.helm_client }
     {
         let lines = &self.script.lines.all()[self.from..to];
+        let heavy = heavy_in(&self.order);
         let calls = self.calls.as_mut_slice();
-        play_step(rt, alloc, &self.lock, &mut self.first, calls, lines, gate)?;
+        play_step(
+            rt,
+            alloc,
+            &self.lock,
+            &mut self.first,
+            calls,
+            lines,
+            heavy,
+            gate,
+        )?;
         self.from = to;
         Ok(())
     }
@@ -274,5 +284,13 @@ impl<'a> Stage<'a> {
             None => List::new(alloc),
         };
         Ran { db, iterations }
+    }
+}
+
+// With how many lines in a step a client has a thread of its own: in a race with any.
+fn heavy_in(order: &Order) -> usize {
+    match order {
+        Order::Race => 1,
+        Order::Stamp => HEAVY,
     }
 }

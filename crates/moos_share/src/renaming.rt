@@ -7,7 +7,7 @@ ghost use Rattle.moos_share.specs.Renaming.{carried_by, carried_name, renamed, r
 use crate::carried_names::CarriedNames;
 use crate::rule::{Rule, Rules};
 use moos_db::Letter;
-use moos_post::{Batch, Copied, List, Name, Names, NoMemory, Pair, Post};
+use moos_post::{Batch, Copied, Name, Names, NoMemory, Pair, Post};
 use moos_reg::matches;
 use std::alloc::Global;
 
@@ -27,7 +27,7 @@ pub(crate) fn renamed(
             pairs.push(pair)?;
         }
     }
-    Ok(List::of(pairs))
+    Ok(Batch::of(pairs))
 }
 
 // The post under the name that the first rule that selects it gives; none without such a rule, or if that name is too long.

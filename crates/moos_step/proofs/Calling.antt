@@ -8,7 +8,7 @@ use Rattle.moos_db.specs.declared.mail.Letter.{Letter}
 use Rattle.moos_step.proofs.Growing.{grown}
 use Rattle.moos_client.proofs.Histories.{none_left, only_own}
 use Rattle.moos_step.proofs.Leading.{IsLed, led_first, led_other}
-use Rattle.moos_step.specs.Steps.{added_by, IsAnswered, mail_of_call, CommunityLock, GoesOn, IsGathered, IsWhole, Makes, HasMade}
+use Rattle.moos_step.specs.Steps.{added_by, IsAnswered, IsJust, mail_of_call, CommunityLock, GoesOn, IsGathered, IsWhole, Makes, HasMade}
 use Rattle.moos_post.specs.Delivery.{mail_after}
 use Rattle.moos_post.specs.History.{History, posts_of}
 use Rattle.moos_post.specs.declared.entry.Call.{Call}
@@ -26,12 +26,8 @@ called_made seat after stamp call called =
       same = called.after ∙ ap (λ seen. record seat { seen = seen; mine = seat.mine ++ entry ∷ [] }) (sym seen);
     }
 
--- these entries are all that the clients make
-abbrev pub IsJust : List Entry → ℕ → List Entry → Type 0
-IsJust entries n added = added ≡ entries_of n entries
-
 -- no other client makes any
-just_idle : {A : Type 0} (result : Result A AllocError) (entry : Entry) (n : ℕ) → n ≢ entry.client → IsJust (added_by result entry) n []
+pub just_idle : {A : Type 0} (result : Result A AllocError) (entry : Entry) (n : ℕ) → n ≢ entry.client → IsJust (added_by result entry) n []
 just_idle (Ok _) entry n other = sym (ap (λ b. cond b (entry ∷ []) []) (ne_eqb entry.client n (λ e. other (sym e))))
 just_idle (Err _) entry n other = refl
 

@@ -4,6 +4,7 @@ pub mod Steps
 pub mod Taking
 pub mod Played
 pub mod Growing
+pub mod InTurn
 pub mod Leading
 pub mod Calling
 pub mod Beside

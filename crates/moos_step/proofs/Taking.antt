@@ -1,16 +1,15 @@
 -- The players after their lines, and the first seat that takes them in.
-use Rattle.std.proofs.Common.{◌≡◌, ◌≢◌, ℕ, zero, suc, ◌<◌, ◌==◌, cond, List, [], ◌∷◌, ◌++◌, map, length, length-append, take, drop, Ok, Err, None, Some, OnOk, Result, refl, sym, ap, ◌∙◌, subst, arith, append-nil, append_assoc, eq-eqb, ne_eqb}
+use Rattle.std.proofs.Common.{◌≡◌, ◌≢◌, ℕ, zero, suc, ◌<◌, ◌==◌, cond, List, [], ◌∷◌, ◌++◌, map, length, length-append, take, drop, Ok, Err, OnOk, Result, refl, sym, ap, ◌∙◌, subst, arith, append-nil, append_assoc, eq-eqb, ne_eqb}
 use Rattle.std.specs.Prelude.{slice_index_or}
 use Rattle.std.specs.List.{All, AllZip}
 use Rattle.std.proofs.lemmas.List.{drop_all, map-append, length-map, take_all}
 use Rattle.std.proofs.lemmas.List.Elements.{All-cons, All-head, All-nil, All-push, All-tail, length_all_zip}
 use native.Mathlib.Decide.{ℕ_discrete}
 use Rattle.std.specs.declared.alloc.AllocError.{AllocError}
-use Rattle.moos_client.specs.Calls.{SeatState, entries_of}
+use Rattle.moos_client.specs.Calls.{SeatState}
 use Rattle.moos_post.specs.declared.entry.Entry.{Entry}
-use Rattle.moos_post.specs.History.{History}
 use Rattle.moos_step.specs.declared.player.Player.{Player}
-use Rattle.moos_step.specs.Steps.{AreParted, CommunityLock, GoesOn, Grows, HasEnded, HasMade, HasSeenAll, HasTaken, IsApart, IsGathered, IsWhole, Makes, met_of, times_met}
+use Rattle.moos_step.specs.Steps.{AreParted, CommunityLock, GoesOn, Grows, HasEnded, HasGrown, HasMade, HasSeenAll, HasTaken, IsApart, IsGathered, IsWhole, Makes, met_of, times_met}
 use Rattle.moos_step.proofs.Mets.{known_after}
 use Rattle.moos_step.proofs.Lines.{may_on}
 use Rattle.turn_lock.specs.Passes.{Begins, events_in, known_of, met_with}
@@ -186,13 +185,6 @@ step_gathered lock may before parted played after players ended step =
     gathered : IsGathered lock before
     gathered = step.gathered
 
--- the first seat has seen all once it has given back what was lent to it, whose history is all that it knows
-pub seen_all : (before lent after : SeatState) (history : History) → before.turn ≡ None → Begins history before.seen → ((n : ℕ) → entries_of n history ≡ known_of before n)
-    → lent ≡ record before { turn = Some history } → after ≡ record lent { seen = history; turn = None } → HasSeenAll before after
-seen_all before lent after history free later whole lent_is after_is =
-    let is : after ≡ record before { seen = history; turn = None } = after_is ∙ ap {A = SeatState} (λ s. record s { seen = history; turn = None }) lent_is in
-    subst (HasSeenAll before) (sym is) (record { later = later; same = ap (λ turn. record before { seen = history; turn = turn }) (sym free); whole = whole })
-
 -- the first seat sees no more than it may
 pub seen_gathered : (lock : CommunityLock) (before after : SeatState) → HasSeenAll before after → IsGathered lock before → IsGathered lock after
 seen_gathered lock before after seen gathered = subst (IsGathered lock) (sym seen.same) (record {
@@ -210,15 +202,26 @@ seen_gathered lock before after seen gathered = subst (IsGathered lock) (sym see
 pub seen_whole : (before after : SeatState) → HasSeenAll before after → IsWhole after
 seen_whole before after seen n = seen.whole n ∙ sym (ap (λ s. known_of s n) seen.same)
 
--- a whole step
-pub step_goes_on : (lock : CommunityLock) (may : ℕ → List Entry → Type 0) (before parted played taken after : SeatState) (players ended : List Player) → IsStep lock may before parted played taken players ended
-    → HasSeenAll taken after → GoesOn may before after
-step_goes_on lock may before parted played taken after players ended step seen = record {
+-- a step before the first seat has seen the whole history
+pub step_grown : (lock : CommunityLock) (may : ℕ → List Entry → Type 0) (before parted played after : SeatState) (players ended : List Player) → IsStep lock may before parted played after players ended → HasGrown may before after
+step_grown lock may before parted played after players ended step = record {
   later = begins_on before.seen parted.seen after.seen (subst (λ s. Begins s before.seen) (sym (ap (λ s. s.seen) step.apart.same)) (begins_itself before.seen))
-      (begins_on parted.seen played.seen after.seen step.first.made.later (begins_on played.seen taken.seen after.seen step.taken.later seen.later));
-  known = λ n. subst (Grows (may n) (known_of before n)) (sym (same n)) (step_known lock may before parted played taken players ended step n);
+      (begins_on parted.seen played.seen after.seen step.first.made.later step.taken.later);
+  known = step_known lock may before parted played after players ended step;
+}
+
+-- and after that
+pub grown_seen : (may : ℕ → List Entry → Type 0) (before taken after : SeatState) → HasGrown may before taken → HasSeenAll taken after → GoesOn may before after
+grown_seen may before taken after grown seen = record {
+  later = begins_on before.seen taken.seen after.seen grown.later seen.later;
+  known = λ n. subst (Grows (may n) (known_of before n)) (sym (same n)) (grown.known n);
   whole = λ n. seen.whole n ∙ sym (same n);
 }
   where
     same : (n : ℕ) → known_of after n ≡ known_of taken n
     same n = ap (λ s. known_of s n) seen.same
+
+-- a whole step
+pub step_goes_on : (lock : CommunityLock) (may : ℕ → List Entry → Type 0) (before parted played taken after : SeatState) (players ended : List Player) → IsStep lock may before parted played taken players ended
+    → HasSeenAll taken after → GoesOn may before after
+step_goes_on lock may before parted played taken after players ended step seen = grown_seen may before taken after (step_grown lock may before parted played taken players ended step) seen

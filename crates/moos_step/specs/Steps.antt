@@ -125,6 +125,15 @@ pub record Grows (may : List Entry → Type 0) (before after : List Entry) : Typ
   pub is : after ≡ before ++ added
   pub allowed : may added
 
+-- What the first seat has seen goes on, and what it knows of each client are some more entries that the client may make.
+pub record HasGrown (may : ℕ → List Entry → Type 0) (before after : SeatState) : Type 0 where
+  pub later : Begins after.seen before.seen
+  pub known : (n : ℕ) → Grows (may n) (known_of before n) (known_of after n)
+
+-- these entries are all that the clients make
+abbrev pub IsJust : List Entry → ℕ → List Entry → Type 0
+IsJust entries n added = added ≡ entries_of n entries
+
 -- A step: what the first seat has seen goes on, what it knows of each client are some more entries that the client may make, and
 -- the history that it has seen has of each client just that.
 pub record GoesOn (may : ℕ → List Entry → Type 0) (before after : SeatState) : Type 0 where

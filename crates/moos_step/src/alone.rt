@@ -36,7 +36,7 @@ pub fn call_alone<R: Wait>(
         lock.meet(first, seat);
         answer
     };
-    see_all(rt, lock, first);
+    see_all(lock, first);
     answer
 }
 

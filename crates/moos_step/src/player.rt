@@ -59,11 +59,30 @@ fn make_calls<R: Wait, G: Gate>(
     let client = seat.number();
     for line in lines {
         if line.client == client {
-            gate.at_call(client, *calls);
-            make_call(rt, alloc, lock, seat, line)?;
-            *calls = calls.saturating_add(1);
+            make_next(rt, alloc, lock, seat, calls, line, gate)?;
         }
     }
+    Ok(())
+}
+
+/// Tells the gate of the next call of the seat's client, makes it as this line says, and counts it.
+pub(crate) fn make_next<R: Wait, G: Gate>(
+    rt: &R,
+    alloc: Global,
+    lock: &Lock,
+    seat: &mut Seat,
+    calls: &mut u64,
+    line: &Entry,
+    gate: &G,
+) -> Result<(), NoMemory>
+    requires may { MayCall lock.now seat.old }
+    requires own { line.now.client ≡ seat.old.number }
+    ensures made { OnOk result (HasMade (line.now ∷ []) seat.old seat.new) }
+    ensures none { OnErr result (HasMade [] seat.old seat.new) }
+{
+    gate.at_call(line.client, *calls);
+    make_call(rt, alloc, lock, seat, line)?;
+    *calls = calls.saturating_add(1);
     Ok(())
 }
 

@@ -1,12 +1,13 @@
-// One step of the clients: the seats of the clients that have lines are parted from the first, their clients make their calls beside
-// each other, and the first takes all in again.
+// One step of the clients. If one of several clients has many lines, the seats of those that have lines are parted from the first,
+// their clients make their calls beside each other, and the first takes all in again.
 ghost use Rattle.std.specs.Prelude.{◌≡◌, ◌<◌, ◌≤◌, ◌^◌, length, nat_lt, IsTrue, IfOk, OnOk, OnErr, Ok};
 ghost use Rattle.std.specs.List.{All, AllZip, list_all};
 ghost use Rattle.std.specs.Thread.{IsSync};
 ghost use Rattle.moos_client.specs.Calls.{MayCall};
-ghost use Rattle.moos_step.specs.Steps.{AreBusy, AreParted, busy_below, GoesOn, HasEnded, HasSeenAll, HasTaken, has_line, IsApart, IsGathered, IsNextBusy, IsPlayed, IsWhole};
+ghost use Rattle.moos_step.specs.Steps.{AreBusy, AreParted, busy_below, GoesOn, HasEnded, HasGrown, HasSeenAll, HasTaken, has_line, IsApart, IsGathered, IsNextBusy, IsPlayed, IsWhole};
 ghost use Rattle.turn_lock.specs.Passes.{HasAll, IsFree, IsOf};
 
+use crate::in_turn::play_in_turn;
 use crate::player::{Player, play_part};
 use moos_client::{Lock, Seat};
 use moos_io::Gate;
@@ -15,9 +16,16 @@ use std::alloc::{AllocError, Global};
 use std::sync::Wait;
 use std::thread::{Threads, for_each_mut, join_mut};
 
-/// Plays these lines in one step. A client without lines leaves its seat with the first, and one that alone has lines
-/// plays without a thread. Even if memory is missing, the first has all seats again, and each client has played a front
-/// of its lines.
+/// Of so many clients it is counted how many lines they have; a script has no more.
+const COUNTED: usize = 64;
+
+/// So many lines of one stamp are worth a thread of their client's own.
+pub const HEAVY: usize = 64;
+
+/// Plays these lines in one step. If one of several clients has at least `heavy` of them, each client makes its calls on a
+/// thread of its own, and else they make them one after another in the order of the lines. A client without lines leaves
+/// its seat with the first. Even if memory is missing, the first has all seats again, and each client has played a front of
+/// its lines.
 pub fn play_step<R: Threads + Wait + Sync, G: Gate>(
     rt: &R,
     alloc: Global,
@@ -25,6 +33,7 @@ pub fn play_step<R: Threads + Wait + Sync, G: Gate>(
     first: &mut Player,
     calls: &mut [u64],
     lines: &[Entry],
+    heavy: usize,
     gate: &G,
 ) -> Result<(), NoMemory>
     requires gathered { IsGathered lock.now first.old.seat }
@@ -35,11 +44,83 @@ pub fn play_step<R: Threads + Wait + Sync, G: Gate>(
     ensures goes_on { GoesOn (IsPlayed lines.now result) first.old.seat first.new.seat }
     ensures calls { length calls.new ≡ length calls.old }
 {
+    let played = play_lines(rt, alloc, lock, first, calls, lines, heavy, gate);
+    see_all(lock, &mut first.seat);
+    played
+}
+
+// The same before the first seat has seen the whole history.
+fn play_lines<R: Threads + Wait + Sync, G: Gate>(
+    rt: &R,
+    alloc: Global,
+    lock: &Lock,
+    first: &mut Player,
+    calls: &mut [u64],
+    lines: &[Entry],
+    heavy: usize,
+    gate: &G,
+) -> Result<(), NoMemory>
+    requires gathered { IsGathered lock.now first.old.seat }
+    requires clients { (0 < length calls.old) × (length calls.old ≤ length lock.now.base) × (length calls.old < 2 ^ 32) }
+    requires lines { IsTrue (list_all (λ line. nat_lt line.client (length calls.old)) lines.now) }
+    ensures gathered { IsGathered lock.now first.new.seat }
+    ensures played { HasGrown (IsPlayed lines.now result) first.old.seat first.new.seat }
+    ensures calls { length calls.new ≡ length calls.old }
+{
+    if has_several(lines) && has_heavy(lines, heavy) {
+        play_apart(rt, alloc, lock, first, calls, lines, gate)
+    } else {
+        play_in_turn(rt, alloc, lock, first, calls, lines, gate)
+    }
+}
+
+// Plays these lines, each client on a thread of its own.
+fn play_apart<R: Threads + Wait + Sync, G: Gate>(
+    rt: &R,
+    alloc: Global,
+    lock: &Lock,
+    first: &mut Player,
+    calls: &mut [u64],
+    lines: &[Entry],
+    gate: &G,
+) -> Result<(), NoMemory>
+    requires gathered { IsGathered lock.now first.old.seat }
+    requires clients { (0 < length calls.old) × (length calls.old ≤ length lock.now.base) × (length calls.old < 2 ^ 32) }
+    requires lines { IsTrue (list_all (λ line. nat_lt line.client (length calls.old)) lines.now) }
+    ensures gathered { IsGathered lock.now first.new.seat }
+    ensures played { HasGrown (IsPlayed lines.now result) first.old.seat first.new.seat }
+    ensures calls { length calls.new ≡ length calls.old }
+{
     let mut players = part_busy(alloc, lock, &mut first.seat, calls, lines)?;
     play_beside(rt, alloc, lock, first, &mut players, lines, gate);
     let others = take_in(lock, &mut first.seat, calls, players);
-    see_all(rt, lock, &mut first.seat);
     both(&first.ended, others)
+}
+
+// Whether the lines are those of several clients.
+fn has_several(lines: &[Entry]) -> bool {
+    match lines {
+        [] => false,
+        [line, others @ ..] => others.iter().any(|other| other.client != line.client),
+    }
+}
+
+/// Whether a client has at least `heavy` of the lines. Any answer would be lawful, so no clause speaks of it.
+pub fn has_heavy(lines: &[Entry], heavy: usize) -> bool {
+    if lines.len() < heavy {
+        return false;
+    }
+    let mut counts = [0usize; COUNTED];
+    for line in lines {
+        let Some(count) = counts.get_mut(line.client as usize) else {
+            return true;
+        };
+        *count = count.saturating_add(1);
+        if *count >= heavy {
+            return true;
+        }
+    }
+    false
 }
 
 // Whether the client has one of the lines.
@@ -59,8 +140,8 @@ pub fn both(one: &Result<(), NoMemory>, other: Result<(), NoMemory>) -> Result<(
     }
 }
 
-// A player at this seat, which has made as many calls as are counted.
-fn player_at(seat: Seat, calls: &[u64]) -> Player
+/// A player at this seat, which has made as many calls as are counted.
+pub(crate) fn player_at(seat: Seat, calls: &[u64]) -> Player
     ensures { result.seat ≡ seat }
 {
     let made = calls.get(seat.number() as usize);
@@ -209,8 +290,8 @@ fn play_each<R: Threads + Wait + Sync, G: Gate>(
     );
 }
 
-// The seat of a player that has played, whose calls are counted, and whether it found no memory.
-fn leave(player: Player, calls: &mut [u64]) -> (Seat, Result<(), NoMemory>)
+/// The seat of a player that has played, whose calls are counted, and whether it found no memory.
+pub(crate) fn leave(player: Player, calls: &mut [u64]) -> (Seat, Result<(), NoMemory>)
     ensures seat { result.0 ≡ player.seat }
     ensures ended { result.1 ≡ player.ended }
     ensures count { length calls.new ≡ length calls.old }
@@ -249,11 +330,10 @@ pub fn take_in(
 }
 
 /// Has the first seat, which has taken in all others, see the whole history.
-pub fn see_all<R: Wait>(rt: &R, lock: &Lock, first: &mut Seat)
+pub fn see_all(lock: &Lock, first: &mut Seat)
     requires first { IsOf lock.now first.old × IsFree first.old }
     requires all { HasAll first.old }
     ensures { HasSeenAll first.old first.new }
 {
-    let held = lock.take(rt, first);
-    lock.give_back(first, held);
+    lock.see_all(first);
 }

@@ -1,7 +1,7 @@
 use Rattle.std.proofs.Common.{◌∙◌, ap, arith, refl, sym, subst}
 use Rattle.moos_client.specs.Calls.{entry_of, SeatState}
-use Rattle.moos_step.specs.Steps.{added_by}
-use Rattle.moos_step.proofs.Calling.{branch_mail, call_first, call_other, goes_on_just, IsJust}
+use Rattle.moos_step.specs.Steps.{added_by, IsJust}
+use Rattle.moos_step.proofs.Calling.{branch_mail, call_first, call_other, goes_on_just}
 use Rattle.moos_step.proofs.Leading.{IsLed, led_gathered, led_on}
 use Rattle.moos_step.proofs.Taking.{seen_gathered, seen_whole}
 use Rattle.turn_lock.proofs.Fronts.{begins_on}
