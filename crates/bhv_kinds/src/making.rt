@@ -22,11 +22,11 @@ pub struct Made {
 
 /// The function that was made last, if any is kept. It only saves the making of it: contracts don't see which one it is.
 #[derive(Drop)]
-pub struct Kept {
+pub struct KeptFunction {
     last: Option<Made>,
 }
 
-impl Model for Kept {
+impl Model for KeptFunction {
     ghost use Rattle.std.specs.Prelude.{IfSome};
     ghost use Rattle.bhv_kinds.specs.Wants.{IsMade};
 
@@ -37,19 +37,19 @@ impl Model for Kept {
     ghost invariant = { λ kept. IfSome kept.last IsMade };
 }
 
-impl Kept {
+impl KeptFunction {
     /// No function is kept.
-    pub fn nothing() -> Kept {
-        Kept { last: None }
+    pub fn nothing() -> KeptFunction {
+        KeptFunction { last: None }
     }
 
     /// The same function.
-    pub fn copy(&self) -> Kept {
+    pub fn copy(&self) -> KeptFunction {
         let last = match &self.last {
             Some(made) => keep(&made.want, &made.func),
             None => None,
         };
-        Kept { last }
+        KeptFunction { last }
     }
 
     /// The function of a want over a domain: the kept one, if it was made of the same, or else a new one, which is kept

@@ -4,7 +4,7 @@ ghost use Rattle.bhv_file.specs.Params.{axes_of};
 ghost use Rattle.bhv_kinds.specs.Giving.{is_named, out_of};
 ghost use Rattle.bhv_kinds.specs.Wants.{CanMake, given_of};
 
-use crate::making::Kept;
+use crate::making::KeptFunction;
 use crate::want::Aim;
 use bhv_file::{Out, Shape};
 use ivp_domain::Domain;
@@ -46,7 +46,7 @@ pub fn out_of(
     domain: &Domain,
     shape: &Shape,
     aim: &Aim,
-    kept: &mut Kept,
+    kept: &mut KeptFunction,
 ) -> Result<Out, NoMemory>
     requires { IfSome aim.now.want (CanMake domain.now) }
     ensures { IfOk result (λ out. out ≡ out_of domain.now (axes_of shape.now) (given_of aim.now)) }

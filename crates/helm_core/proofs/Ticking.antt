@@ -24,7 +24,7 @@ use Rattle.helm_core.specs.Behaviors.{BhvSoFar, all_after, all_begun}
 use Rattle.helm_core.specs.Lists.{list_before, spawned_at, stays}
 use Rattle.helm_core.specs.Templates.{Spawning, spawned}
 use Rattle.helm_core.specs.Decisions.{decision_made}
-use Rattle.helm_core.specs.Standings.{IsBehaviorListOf, IsKept, Sees}
+use Rattle.helm_core.specs.Standings.{IsBehaviorListOf, IsKept, SeesView}
 use Rattle.helm_core.specs.Ticks.{Seen, seen_at, Tick, heard_at, heard_in_all, is_parked, learnt_at, pairs_mailed, tick_of, tick_stamp}
 use Rattle.helm_core.specs.PastIterations.{PastIteration, past_iteration_at, past_iteration_before}
 use Rattle.helm_core.specs.Posts.{allstop_by, allstop_of, are_declared_modes, changed, desired_posts, flags_raised, helm_posts, posts_made, state_text, state_word}
@@ -157,7 +157,7 @@ module _ (helm : Helm) (stamp : ℕ) (mail : List Letter) (now : HelmView) (answ
   known' : seen'.known ≡ knowledge_of now.info
   known' = ap latest_of (ap heard_in_all (take_whole ticks (tick_of stamp mail))) ∙ sym seen.known
 
-  sees : Sees seen' stamp (pairs_mailed mail) now
+  sees : SeesView seen' stamp (pairs_mailed mail) now
   sees = record { when = stamp_last ticks stamp mail; heard = mail_last ticks stamp mail; parked = parked'; known = known'; mode = mode' }
 
   list' : IsBehaviorListOf (clock_of helm) ones helm.behavior_list

@@ -20,7 +20,7 @@ use Rattle.helm_core.specs.Templates.{Spawning, spawned}
 use Rattle.helm_core.specs.Decisions.{decision_made}
 use Rattle.helm_core.specs.Posts.{allstop_by, are_declared_modes, changed, desired_posts, flags_raised, state_word}
 use Rattle.helm_core.specs.Iterations.{all_faults, all_states, all_updates}
-use Rattle.helm_core.specs.Standings.{AreFew, BehaviorListState, IsBehaviorListOf, IsFit, IsFitKept, IsKept, Sees}
+use Rattle.helm_core.specs.Standings.{AreFew, BehaviorListState, IsBehaviorListOf, IsFit, IsFitKept, IsKept, SeesView}
 use Rattle.helm_core.specs.Helms.{allstop_text}
 
 -- what is known once these pairs were learnt too
@@ -73,13 +73,13 @@ pub record IsHeardAndTurned (axes : List Axis) (blocks : List Block) (seen : See
 -- turns at this view: of whichever behaviours the list stood for, these are the turns in an iteration that sees this
 abbrev pub HasTurned : BehaviorListState → ℕ → List Pair → HelmView → TurnsEnded → Type 0
 HasTurned behavior_list stamp letters now turned =
-    (clock : ℕ) (seen : Seen) (ones : List BhvSoFar) → clock ≤ stamp → Sees seen stamp letters now → IsBehaviorListOf clock ones behavior_list
+    (clock : ℕ) (seen : Seen) (ones : List BhvSoFar) → clock ≤ stamp → SeesView seen stamp letters now → IsBehaviorListOf clock ones behavior_list
     → IsTurned behavior_list.blocks seen (all_begun behavior_list.axes seen ones) turned
 
 -- and with the answers to letters to templates before them, in an iteration of whichever number
 abbrev pub HasHeardAndTurned : BehaviorListState → ℕ → List Pair → HelmView → List Update → TurnsEnded → Type 0
 HasHeardAndTurned behavior_list stamp letters now answers turned =
-    (clock at : ℕ) (seen : Seen) (ones : List BhvSoFar) → clock ≤ stamp → Sees seen stamp letters now → IsBehaviorListOf clock ones behavior_list
+    (clock at : ℕ) (seen : Seen) (ones : List BhvSoFar) → clock ≤ stamp → SeesView seen stamp letters now → IsBehaviorListOf clock ones behavior_list
     → IsHeardAndTurned behavior_list.axes behavior_list.blocks seen (spawned behavior_list.axes behavior_list.blocks at letters ones) answers turned
 
 -- what holds of `count` turns over these axes

@@ -5,7 +5,7 @@ ghost use Rattle.helm_cond.specs.Infos.{knowledge_of};
 ghost use Rattle.ivp_domain.specs.declared.axis.Axis.{Axis};
 ghost use Rattle.bhv_life.specs.Outcomes.{flags_at, raised};
 ghost use Rattle.helm_core.specs.Behaviors.{TurnSoFar, BhvSoFar};
-ghost use Rattle.helm_core.specs.Standings.{BeginsTurn, HasJudgedAndStepped, IsBegun, IsEnded, IsFitBegun, IsFitEnded, IsKept, IsReady, Sees};
+ghost use Rattle.helm_core.specs.Standings.{BeginsTurn, HasJudgedAndStepped, IsBegun, IsEnded, IsFitBegun, IsFitEnded, IsKept, IsReady, SeesView};
 ghost use Rattle.helm_core.specs.Ticks.{Seen, pairs_mailed};
 
 use crate::behavior::{Behavior, BoxedDoer};
@@ -56,7 +56,7 @@ pub(crate) fn begin<'a>(
     now: &HelmView,
 ) -> Result<TurnBegun<'a>, NoMemory>
     requires ready { IsReady domain.now kept.now.doer }
-    ensures begins { IfOk result (λ begun. (blocks : List Block) (clock : ℕ) (seen : Seen) (one : BhvSoFar) → clock ≤ stamp → Sees seen stamp (pairs_mailed letters.now) now.now → one.block.common ≡ common.now → IsKept blocks clock one kept.now → BeginsTurn domain.now blocks seen one begun) }
+    ensures begins { IfOk result (λ begun. (blocks : List Block) (clock : ℕ) (seen : Seen) (one : BhvSoFar) → clock ≤ stamp → SeesView seen stamp (pairs_mailed letters.now) now.now → one.block.common ≡ common.now → IsKept blocks clock one kept.now → BeginsTurn domain.now blocks seen one begun) }
     ensures fit { IfOk result (λ begun. (blocks : List Block) → kept.now.block < length blocks → IsFitBegun domain.now blocks begun) }
 {
     let started = kept

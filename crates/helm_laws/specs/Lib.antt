@@ -1,0 +1,13 @@
+pub mod Files
+pub mod Said
+pub mod Stops
+pub mod Overrides
+pub mod Inputs
+pub mod Influences
+pub mod States
+pub mod Desires
+pub mod Bargains
+pub mod Bounds
+pub mod Approaches
+pub mod Regions
+pub mod Reliance
