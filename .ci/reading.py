@@ -116,7 +116,8 @@ class CodeType:
         self.target = " ".join(text.partition(" = ")[2].rstrip(";").split()) if kind == "type" else None
         self.parts = parts_of(text.partition("{")[2].rpartition("}")[0]) if kind in ("struct", "enum") else []
         model = re.search(rf"^impl(?:<[^{{]*?>)? Model for {name}\b.*?^}}", source.text, re.M | re.S)
-        self.seen_as = " ".join(re.search(r"ghost Value = \{(.*?)\};", model.group(), re.S).group(1).split()) if model else None
+        value = re.search(r"ghost Value = \{(.*?)\};", model.group(), re.S) if model else None
+        self.seen_as = " ".join(value.group(1).split()) if value else None
 
     def words(self):
         """The words by which the type refers to other types: of its model's value, or of its parts without their own names."""

@@ -8,6 +8,7 @@ pub mod Following
 pub mod Naming
 pub mod PathsAt
 pub mod Ranging
+pub mod Room
 pub mod Splits
 pub mod Valid
 pub mod Within

@@ -1,5 +1,7 @@
 -- Where a job is with its files, one after another.
 use Rattle.std.specs.Prelude.{◌≡◌, ℕ, List, [], ◌∷◌, ◌++◌, Option, Some, IfSome, Result, Ok, Err}
+use Rattle.moos_files.specs.Asked.{Load}
+use Rattle.moos_files.specs.Heard.{given_load}
 use Rattle.moos_text.specs.declared.cause.ReadFault.{ReadFault}
 use Rattle.command_line.specs.declared.status.FileKind.{FileKind}
 
@@ -30,6 +32,17 @@ WasWanted told (Unfit kind fault) bytes = ⊥
 abbrev pub AreLoaded : {T : Type 0} → Option (List ℕ → Option (List ℕ)) → (List (List ℕ) → FileTurn T) → List (List ℕ) → List (List ℕ) → Type 0
 AreLoaded told turn front [] = Unit {0}
 AreLoaded told turn front (bytes ∷ files) = WasWanted told (turn front) bytes × AreLoaded told turn (front ++ bytes ∷ []) files
+
+-- the name of the file that is wanted, where one is
+abbrev pub name_wanted : {T : Type 0} → FileTurn T → List ℕ
+name_wanted (Wanted kind name) = name
+name_wanted (Ready task) = []
+name_wanted (Unfit kind fault) = []
+
+-- the loads of such files: each by the name that is wanted then, and with its bytes
+abbrev pub loads_of : {T : Type 0} → (List (List ℕ) → FileTurn T) → List (List ℕ) → List (List ℕ) → List Load
+loads_of turn front [] = []
+loads_of turn front (bytes ∷ files) = given_load (name_wanted (turn front)) bytes ∷ loads_of turn (front ++ bytes ∷ []) files
 
 -- the same place, with its task as one of a wider type
 abbrev pub turn_as : {T U : Type 0} → (T → U) → FileTurn T → FileTurn U

@@ -1,12 +1,14 @@
 // The steps of every job: a file is loaded, and refused or not; and what a job writes is put.
-ghost use Rattle.std.specs.Prelude.{◌≡◌, ◌<◌, ◌≤◌, ◌^◌, false, length, IfOk, IfErr, OnOk, OnErr};
+ghost use Rattle.std.specs.Prelude.{◌≡◌, ◌<◌, ◌^◌, ◌++◌, ◌∷◌, [], false, length, IfOk, IfErr, OnOk, OnErr};
 ghost use Rattle.moos_io.specs.Faults.{Rose};
-ghost use Rattle.moos_io.specs.Files.{is_among};
+ghost use Rattle.moos_files.specs.Files.{is_among};
+ghost use Rattle.moos_files.specs.Heard.{failed_load, given_load, with_loads};
 ghost use Rattle.command_line.specs.Endings.{status_of};
 ghost use Rattle.command_line.specs.Turns.{HasBytes};
 
 use crate::status::{FileKind, Refusal, Status};
-use moos_io::{Failed, Folder, LoadFault};
+use moos_files::{Folder, LoadFault};
+use moos_io::Failed;
 use moos_text::ReadFault;
 use std::alloc::Global;
 
@@ -15,9 +17,10 @@ use std::alloc::Global;
 pub fn load<F: Folder>(alloc: Global, folder: &mut F, name: &[u8]) -> Result<Vec<u8>, LoadFault>
     ensures content { IfOk result (λ bytes. HasBytes (F.told folder.old) name.now bytes.items) }
     ensures short { IfOk result (λ bytes. length bytes.items < 2 ^ 32) }
-    ensures rose { IfErr result (λ fault. fault ≡ LoadFault.Failed → Rose (F.faults folder.old) (F.faults folder.new)) }
+    ensures heard { IfOk result (λ bytes. F.heard folder.new ≡ with_loads (F.heard folder.old) (given_load name.now bytes.items ∷ [])) }
+    ensures failed { OnErr result ((F.heard folder.new).loads ≡ (F.heard folder.old).loads ++ failed_load name.now ∷ []) }
+    ensures rose { IfErr result (λ fault. fault ≡ LoadFault.Failed → Rose (F.heard folder.old).faults (F.heard folder.new).faults) }
     ensures unsure { IfErr result (λ fault. fault ≡ LoadFault.Failed → is_among (F.sure folder.old) name.now ≡ false) }
-    ensures later { F.faults folder.old ≤ F.faults folder.new }
     ensures same { (F.told folder.new ≡ F.told folder.old) × (F.sure folder.new ≡ F.sure folder.old) }
 {
     let mut bytes = Vec::new(alloc);

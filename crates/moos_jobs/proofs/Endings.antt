@@ -1,9 +1,12 @@
 -- What follows from a run's status where nothing failed, or nothing could: a job whose files are good was done, and another was
 -- refused.
-use Rattle.std.proofs.Common.{◌≡◌, ℕ, List, [], ◌∷◌, ◌++◌, ◌≤◌, true, length, take, inl, inr, refl, ap, sym, subst, ◌∙◌, arith, append_assoc, append-nil, length-append, length-take}
+use Rattle.std.proofs.Common.{◌≡◌, ℕ, ◌⊎◌, List, [], ◌∷◌, ◌++◌, ◌≤◌, true, length, take, inl, inr, refl, ap, sym, subst, ◌∙◌, arith, append_assoc, append-nil, length-append, length-take}
 use Rattle.std.proofs.lemmas.Bool.{false≢true}
+use Rattle.std.proofs.lemmas.List.{append_cancel_left}
 use Rattle.std.specs.Prelude.{IfSome, Option, Some, None}
-use Rattle.moos_io.specs.Files.{is_among}
+use Rattle.moos_files.specs.Files.{is_among}
+use Rattle.moos_files.specs.Asked.{Load}
+use Rattle.moos_files.specs.Heard.{Hearing, failed_load, given_load, with_loads}
 use Rattle.moos_io.specs.Pieces.{Took}
 use Rattle.moos_text.specs.declared.cause.Cause.{Cause}
 use Rattle.moos_text.specs.declared.cause.ReadFault.{ReadFault}
@@ -13,11 +16,11 @@ use Rattle.command_line.specs.declared.status.FileKind.{FileKind}
 use Rattle.command_line.specs.declared.status.Refusal.{Refusal}
 use Rattle.command_line.specs.declared.status.Status.{Status}
 use Rattle.command_line.specs.declared.status.Status.TheVariants.{Done, CheckNo, Usage, LoadFault, WriteFault, Refused, NoMemory}
-use Rattle.command_line.specs.Turns.{FileTurn, Ready, Unfit, Wanted, AreLoaded, WasWanted}
+use Rattle.command_line.specs.Turns.{FileTurn, loads_of, name_wanted, Ready, Unfit, Wanted, AreLoaded, WasWanted}
 use Rattle.command_line.specs.Jobs.{job_named}
 use Rattle.moos_jobs.specs.Jobs.{IsOutput, Task, outcomes, turn_of}
 use Rattle.command_line.specs.Endings.{DidFrom, EndsFrom, Surroundings, Ended, Sinking, WroteAll}
-use Rattle.moos_jobs.specs.Run.{Completes, Declines, EndsWith, HasFiles, HasRoomFor, IsDoneBut, IsRefusedBut, Refuses, Succeeds}
+use Rattle.moos_jobs.specs.Run.{Answers, Completes, Declines, EndsWith, Gave, HasFiles, HasRoomFor, IsDoneBut, IsRefusedBut, Misses, Objects, Refuses, Rejects, Succeeds}
 
 -- what the job that the words name did from its first file on is what the run did
 pub did : (words : List (List ℕ)) (run : Surroundings) (job : Job) (status : Status) → job_named words ≡ Some job → EndsFrom outcomes run (turn_of job) [] status → EndsWith words run status
@@ -124,6 +127,27 @@ module _ (words : List (List ℕ)) (run : Surroundings) (job : Job) (files : Lis
       (ap (λ job. turn_of job ran.ended.files) (sym same_job) ∙ ran.ended.wanted) in
       false≢true (sym ran.ended.unsure ∙ sure ran.ended.name found.0 found.1)
 
+  -- of a job that came to its end, no file that it wants on the way is missing
+  none_missing : (kind : FileKind) (name : List ℕ) → turn_of job files ≡ Wanted kind name → has.told name ≡ None → (status : Status) (other : Job) → job_named words ≡ Some other
+      → (did : DidFrom outcomes run (turn_of other) [] status) → IsOver (turn_of other did.files) → ⊥
+  none_missing kind name wanted none status other named did done =
+      let same_job : other ≡ job = one_job other named in
+      let found = wanted_told has.told job [] did.files files kind name (told_loads other same_job did.files did.loaded) (told_loads job refl files has.loaded)
+      (subst (λ job. IsOver (turn_of job did.files)) same_job done) wanted in
+      let both : None ≡ Some found.0 = sym none ∙ found.1 in absurd cc
+
+  -- where one is missing, the load failed
+  pub is_missing : (kind : FileKind) (name : List ℕ) (status : Status) → turn_of job files ≡ Wanted kind name → has.told name ≡ None → EndsWith words run status → (status ≡ LoadFault) ⊎ (status ≡ NoMemory)
+  is_missing kind name Done wanted none ran = absurd (none_missing kind name wanted none Done ran.job ran.named ran.ended (Good ran.ended.ended.task ran.ended.ended.good))
+  is_missing kind name CheckNo wanted none ran = absurd (none_missing kind name wanted none CheckNo ran.job ran.named ran.ended (Good ran.ended.ended.task ran.ended.ended.good))
+  is_missing kind name Usage wanted none ran = let both : None ≡ Some job = sym ran.unnamed ∙ has.named in absurd cc
+  is_missing kind name LoadFault wanted none ran = inl refl
+  is_missing kind name WriteFault wanted none ran =
+      absurd (none_missing kind name wanted none WriteFault ran.job ran.named ran.ended (Good ran.ended.ended.0.task ran.ended.ended.0.good))
+  is_missing kind name (Refused refusal) wanted none ran =
+      absurd (none_missing kind name wanted none (Refused refusal) ran.job ran.named ran.ended (Bad refusal.file (At refusal.line refusal.cause) ran.ended.ended.0))
+  is_missing kind name NoMemory wanted none ran = inr refl
+
   -- with good files the job is done, where no load fails and no put does
   is_done : (task : Task) (status : Status) → turn_of job files ≡ Ready task → (EndsWith words run LoadFault → ⊥) → (Ended outcomes (Ready task) run.sink WriteFault → ⊥) → EndsWith words run status
       → IsDoneBut task run status
@@ -182,3 +206,92 @@ succeeds words run status ran job files task held good room =
 pub declines : (words : List (List ℕ)) (run : Surroundings) (status : Status) → EndsWith words run status → Declines words run status
 declines words run status ran job files kind line cause held bad =
     is_refused words run job files held.has kind line cause status bad (loads_all words run job files held.has held.sure (Bad kind (At line cause) bad)) ran
+
+-- the loads of a job tell its files
+heard_files : (job : Job) (front one other : List (List ℕ)) → loads_of (turn_of job) front one ≡ loads_of (turn_of job) front other → one ≡ other
+heard_files job front [] [] same = refl
+heard_files job front [] (more ∷ other) same = absurd cc
+heard_files job front (bytes ∷ one) [] same = absurd cc
+heard_files job front (bytes ∷ one) (more ∷ other) same =
+    let name = name_wanted (turn_of job front) in
+    let lists : given_load name bytes ∷ loads_of (turn_of job) (front ++ bytes ∷ []) one ≡ given_load name more ∷ loads_of (turn_of job) (front ++ more ∷ []) other = same in
+    let load : given_load name bytes ≡ given_load name more = cc in
+    let given : Some bytes ≡ Some more = ap (λ (load : Load). load.given) load in
+    let first : bytes ≡ more = cc in
+    let rest : loads_of (turn_of job) (front ++ bytes ∷ []) one ≡ loads_of (turn_of job) (front ++ more ∷ []) other = cc in
+    ap (λ first. first ∷ one) first
+    ∙ ap (λ rest. more ∷ rest) (heard_files job (front ++ bytes ∷ []) one other (rest ∙ ap (λ first. loads_of (turn_of job) (front ++ first ∷ []) other) (sym first)))
+
+-- none of them failed
+none_failed : (job : Job) (front files : List (List ℕ)) (loads : List Load) (name : List ℕ) → loads_of (turn_of job) front files ≡ loads ++ failed_load name ∷ [] → ⊥
+none_failed job front [] [] name same = absurd cc
+none_failed job front [] (load ∷ loads) name same = absurd cc
+none_failed job front (bytes ∷ files) [] name same =
+    let lists : given_load (name_wanted (turn_of job front)) bytes ∷ loads_of (turn_of job) (front ++ bytes ∷ []) files ≡ failed_load name ∷ [] = same in
+    let load : given_load (name_wanted (turn_of job front)) bytes ≡ failed_load name = cc in
+    let given : Some bytes ≡ None = ap (λ (load : Load). load.given) load in
+    absurd cc
+none_failed job front (bytes ∷ files) (load ∷ loads) name same =
+    let lists : given_load (name_wanted (turn_of job front)) bytes ∷ loads_of (turn_of job) (front ++ bytes ∷ []) files ≡ load ∷ (loads ++ failed_load name ∷ []) = same in
+    let rest : loads_of (turn_of job) (front ++ bytes ∷ []) files ≡ loads ++ failed_load name ∷ [] = cc in
+    none_failed job (front ++ bytes ∷ []) files loads name rest
+
+module _ (words : List (List ℕ)) (run : Surroundings) (job : Job) (files : List (List ℕ)) (gave : Gave words run job files) where
+  job_given : (other : Job) → job_named words ≡ Some other → other ≡ job
+  job_given other named = let both : Some other ≡ Some job = sym named ∙ gave.named in cc
+
+  given_with : (turn : FileTurn Task) → turn_of job files ≡ turn → (status : Status) (other : Job) (loads : List (List ℕ)) → job_named words ≡ Some other
+      → run.heard_after ≡ with_loads run.heard_before (loads_of (turn_of other) [] loads) → Ended outcomes (turn_of other loads) run.sink status → Ended outcomes turn run.sink status
+  given_with turn is status other loads named heard ended =
+      let same_job : other ≡ job = job_given other named in
+      let same : loads ≡ files = heard_files job [] loads files
+      (append_cancel_left run.heard_before.loads _ _ (ap (λ (heard : Hearing). heard.loads) (ap (λ job. with_loads run.heard_before (loads_of (turn_of job) [] loads)) (sym same_job) ∙ sym heard ∙ gave.heard))) in
+      subst (λ turn. Ended outcomes turn run.sink status) (ap (λ job. turn_of job loads) same_job ∙ (ap (turn_of job) same ∙ is)) ended
+
+  no_load_fault : EndsWith words run LoadFault → ⊥
+  no_load_fault ran =
+      none_failed job [] files (loads_of (turn_of ran.job) [] ran.ended.files) ran.ended.name
+      (append_cancel_left run.heard_before.loads _ _ (sym (ap (λ (heard : Hearing). heard.loads) gave.heard) ∙ ran.ended.heard))
+
+  answers_so : (task : Task) (status : Status) → turn_of job files ≡ Ready task → (Ended outcomes (Ready task) run.sink WriteFault → ⊥) → EndsWith words run status → IsDoneBut task run status
+  answers_so task Done good puts ran = inl (given_with (Ready task) good Done ran.job ran.ended.files ran.named ran.ended.heard ran.ended.ended)
+  answers_so task CheckNo good puts ran = inl (given_with (Ready task) good CheckNo ran.job ran.ended.files ran.named ran.ended.heard ran.ended.ended)
+  answers_so task Usage good puts ran = let both : None ≡ Some job = sym ran.unnamed ∙ gave.named in absurd cc
+  answers_so task LoadFault good puts ran = absurd (no_load_fault ran)
+  answers_so task WriteFault good puts ran = absurd (puts (given_with (Ready task) good WriteFault ran.job ran.ended.files ran.named ran.ended.heard ran.ended.ended))
+  answers_so task (Refused refusal) good puts ran =
+      let ended = given_with (Ready task) good (Refused refusal) ran.job ran.ended.files ran.named ran.ended.heard ran.ended.ended in
+      let other : Ready task ≡ Unfit refusal.file (At refusal.line refusal.cause) = ended.0 in absurd cc
+  answers_so task NoMemory good puts ran = inr refl
+
+  objects_so : (kind : FileKind) (line : ℕ) (cause : Cause) (status : Status) → turn_of job files ≡ Unfit kind (At line cause) → EndsWith words run status → IsRefusedBut kind line cause status
+  objects_so kind line cause Done bad ran =
+      let wrote = given_with (Unfit kind (At line cause)) bad Done ran.job ran.ended.files ran.named ran.ended.heard ran.ended.ended in absurd (none_written kind (At line cause) wrote.task wrote.good)
+  objects_so kind line cause CheckNo bad ran =
+      let wrote = given_with (Unfit kind (At line cause)) bad CheckNo ran.job ran.ended.files ran.named ran.ended.heard ran.ended.ended in absurd (none_written kind (At line cause) wrote.task wrote.good)
+  objects_so kind line cause Usage bad ran = let both : None ≡ Some job = sym ran.unnamed ∙ gave.named in absurd cc
+  objects_so kind line cause LoadFault bad ran = absurd (no_load_fault ran)
+  objects_so kind line cause WriteFault bad ran =
+      let wrote = given_with (Unfit kind (At line cause)) bad WriteFault ran.job ran.ended.files ran.named ran.ended.heard ran.ended.ended in absurd (none_written kind (At line cause) wrote.0.task wrote.0.good)
+  objects_so kind line cause (Refused refusal) bad ran =
+      inl (one_refusal (Unfit kind (At line cause)) kind line cause refusal refl
+      (given_with (Unfit kind (At line cause)) bad (Refused refusal) ran.job ran.ended.files ran.named ran.ended.heard ran.ended.ended).0)
+  objects_so kind line cause NoMemory bad ran = inr refl
+
+pub answers : (words : List (List ℕ)) (run : Surroundings) (status : Status) → EndsWith words run status → Answers words run status
+answers words run status ran job files task gave good puts = answers_so words run job files gave task status good (λ ended. puts ended.1.rose) ran
+
+pub objects : (words : List (List ℕ)) (run : Surroundings) (status : Status) → EndsWith words run status → Objects words run status
+objects words run status ran job files kind line cause gave bad = objects_so words run job files gave kind line cause status bad ran
+
+pub misses : (words : List (List ℕ)) (run : Surroundings) (status : Status) → EndsWith words run status → Misses words run status
+misses words run status ran job files kind name has wanted none = is_missing words run job files has kind name status wanted none ran
+
+-- words that name no job did none
+none_done : (words : List (List ℕ)) (job : Job) → job_named words ≡ None → job_named words ≡ Some job → ⊥
+none_done words job none named = let both : None ≡ Some job = sym none ∙ named in absurd cc
+
+pub rejects : (words : List (List ℕ)) (run : Surroundings) (status : Status) → EndsWith words run status → Rejects words status
+rejects words run Usage ran none = inl refl
+rejects words run NoMemory ran none = inr refl
+rejects words run status ran none = absurd (none_done words ran.job none ran.named)

@@ -1,13 +1,13 @@
 -- A job that needs a helm's files first: it ends as their loading does, or goes on behind them.
-use Rattle.std.proofs.Common.{◌≡◌, ℕ, List, [], ◌∷◌, ◌++◌, inl, inr, refl, ap, sym, ◌∙◌, subst, arith, append_assoc, append-nil}
+use Rattle.std.proofs.Common.{◌≡◌, ℕ, List, [], ◌∷◌, ◌++◌, inl, inr, refl, ap, ap₂, sym, ◌∙◌, subst, append_assoc, append-nil}
 use Rattle.std.specs.Prelude.{Err, Ok, Option, Result}
-use Rattle.command_line.proofs.Loading.{ends_here, IsBehind, went_on}
+use Rattle.command_line.proofs.Loading.{ends_here, heard_for, went_on}
 use Rattle.command_line.specs.declared.status.FileKind.{FileKind}
 use Rattle.command_line.specs.declared.status.FileKind.TheVariants.{Behaviors as BehaviorsFile, Mission as MissionFile}
 use Rattle.command_line.specs.declared.status.Status.{Status}
 use Rattle.command_line.specs.declared.status.Status.TheVariants.{Done, CheckNo, Usage, LoadFault, WriteFault, Refused, NoMemory}
-use Rattle.command_line.specs.Endings.{DidFrom, Ended, EndsFrom, Outcomes, Sinking, Surroundings}
-use Rattle.command_line.specs.Turns.{AreLoaded, FileTurn, Ready, turn_behind, Unfit, Wanted, WasWanted}
+use Rattle.command_line.specs.Endings.{DidFrom, Ended, EndsFrom, Outcomes, Sinking, Surroundings, surroundings}
+use Rattle.command_line.specs.Turns.{AreLoaded, FileTurn, loads_of, name_wanted, Ready, turn_behind, Unfit, Wanted, WasWanted}
 use Rattle.moos_jobs.specs.declared.helm_files.HelmFiles.{HelmFiles}
 use Rattle.moos_jobs.specs.HelmFiles.{with_few_ticks}
 use Rattle.moos_jobs.specs.Loading.{behaviors_turn, helm_alone, helm_turn, nothing_written, WereLoaded}
@@ -15,6 +15,8 @@ use Rattle.bhv_reader.specs.Behaviors.{behaviors_of}
 use Rattle.mission_reader.specs.declared.mission.Mission.{Mission}
 use Rattle.mission_reader.specs.Missions.{mission_of}
 use Rattle.moos_text.specs.declared.cause.ReadFault.{ReadFault}
+use Rattle.moos_files.specs.Asked.{Load}
+use Rattle.moos_files.specs.Heard.{failed_load, given_load, with_loads}
 use Rattle.moos_text.specs.Refusals.{and_then}
 use Rattle.script_reader.specs.declared.script.Script.{Script}
 
@@ -32,6 +34,18 @@ was_followed : {A T : Type 0} (told : Option (List ℕ → Option (List ℕ))) (
 was_followed told next (Wanted kind name) bytes was = was
 was_followed told next (Ready value) bytes was = absurd was
 was_followed told next (Unfit kind fault) bytes was = absurd was
+
+name_followed : {A T : Type 0} (told : Option (List ℕ → Option (List ℕ))) (next : A → FileTurn T) (turn : FileTurn A) (bytes : List ℕ) → WasWanted told turn bytes → name_wanted turn ≡ name_wanted (followed next turn)
+name_followed told next (Wanted kind name) bytes was = refl
+name_followed told next (Ready value) bytes was = absurd was
+name_followed told next (Unfit kind fault) bytes was = absurd was
+
+-- some of the job was done; the folder tells the same in the rest of the run
+pub record IsFurther (run later : Surroundings) : Type 0 where
+  pub told : later.told ≡ run.told
+  pub sure : later.sure ≡ run.sure
+  pub sink : later.sink ≡ run.sink
+  pub after : later.heard_after ≡ run.heard_after
 
 -- what is behind the first file
 abbrev behind : List (List ℕ) → List (List ℕ)
@@ -72,10 +86,23 @@ module _ {T : Type 0} (outcomes : Outcomes T) (next : HelmFiles → List (List �
   ended_so files sink WriteFault ended = absurd ended.0.output
   ended_so files sink (Refused refusal) ended = (stands files ∙ ap (followed (λ helm. next helm (behind (behind files)))) ended.0, ended.1)
   ended_so files sink NoMemory (inl untouched) = inl untouched
-  ended_so files sink NoMemory (inr front) = absurd front.0.output
+  ended_so files sink NoMemory (inr part) = absurd part.front.output
+
+  -- the same loads
+  loads_before : (told : Option (List ℕ → Option (List ℕ))) (first files : List (List ℕ)) → AreLoaded told (helm_turn helm_alone script name) first files
+      → loads_of (helm_turn helm_alone script name) first files ≡ loads_of turn (front ++ first) files
+  loads_before told first [] loaded = refl
+  loads_before told first (bytes ∷ files) loaded =
+      ap₂ (λ (name : List ℕ) (loads : List Load). given_load name bytes ∷ loads)
+      (name_followed told (λ helm. next helm (behind (behind first))) (helm_turn helm_alone script name first) bytes loaded.0 ∙ sym (ap name_wanted (stands first)))
+      (loads_before told (first ++ bytes ∷ []) files loaded.1 ∙ ap (λ done. loads_of turn done files) (sym (append_assoc front first (bytes ∷ []))))
+
+  loads_first : (told : Option (List ℕ → Option (List ℕ))) (files : List (List ℕ)) → AreLoaded told (helm_turn helm_alone script name) [] files
+      → loads_of (helm_turn helm_alone script name) [] files ≡ loads_of turn front files
+  loads_first told files loaded = loads_before told [] files loaded ∙ ap (λ done. loads_of turn done files) (append-nil front)
 
   did_so : (run : Surroundings) (status : Status) → DidFrom nothing_written run (helm_turn helm_alone script name) [] status → DidFrom outcomes run turn front status
-  did_so run status did = record { files = did.files; loaded = loaded_first run.told did.files did.loaded; ended = ended_so did.files run.sink status did.ended }
+  did_so run status did = record { files = did.files; loaded = loaded_first run.told did.files did.loaded; heard = heard_for (helm_turn helm_alone script name did.files) (turn (front ++ did.files)) status run.heard_before run.heard_after _ _ (λ kind name wanted. stands did.files ∙ ap (followed (λ helm. next helm (behind (behind did.files)))) wanted) (loads_first run.told did.files did.loaded) did.heard; ended = ended_so did.files run.sink status did.ended }
 
   -- the job ends as the loading does
   pub ends_so : (run : Surroundings) (status : Status) → EndsFrom nothing_written run (helm_turn helm_alone script name) [] status → EndsFrom outcomes run turn front status
@@ -86,13 +113,18 @@ module _ {T : Type 0} (outcomes : Outcomes T) (next : HelmFiles → List (List �
     kind = ends.kind;
     name = ends.name;
     wanted = stands ends.files ∙ ap (followed (λ helm. next helm (behind (behind ends.files)))) ends.wanted;
+    heard = ends.heard ∙ ap (λ (loads : List Load). run.heard_before.loads ++ (loads ++ failed_load ends.name ∷ [])) (loads_first run.told ends.files ends.loaded);
     unsure = ends.unsure;
     silent = ends.silent;
   }
   ends_so run status ends = did_so run status ends
 
   -- the job goes on behind both files
-  module _ (run later : Surroundings) (is : IsBehind run later) (files : HelmFiles) (were : WereLoaded run.told script name files) where
+  module _ (run later : Surroundings) (is : IsFurther run later) (files : HelmFiles) (were : WereLoaded run.told run.heard_before later.heard_before script name files) where
+    -- between the two
+    abbrev between : Surroundings
+    between = surroundings run.told run.sure (with_loads run.heard_before (given_load name were.mission ∷ [])) run.heard_after run.sink
+
     abbrev pub both : List (List ℕ)
     both = (front ++ were.mission ∷ []) ++ were.behaviors ∷ []
 
@@ -106,12 +138,20 @@ module _ {T : Type 0} (outcomes : Outcomes T) (next : HelmFiles → List (List �
 
     pub goes_on : (status : Status) → EndsFrom outcomes later turn both status → EndsFrom outcomes run turn front status
     goes_on status ends =
-        went_on outcomes run run (record { told = refl; sure = refl; sink = refl; before = omega arith; after = refl }) turn front MissionFile name name were.mission
+        went_on outcomes run between turn front MissionFile name name were.mission (record { told = refl; sure = refl; sink = refl; before = refl; after = refl })
         (ap turn (sym (append-nil front)) ∙ turns []) refl were.mission_told status
-        (went_on outcomes run later is turn (front ++ were.mission ∷ []) BehaviorsFile files.mission.behaviors files.mission.behaviors were.behaviors (turns (were.mission ∷ []) ∙ read_so []) refl were.behaviors_told status ends)
+        (went_on outcomes between later turn (front ++ were.mission ∷ []) BehaviorsFile files.mission.behaviors files.mission.behaviors were.behaviors
+        (record {
+          told = is.told;
+          sure = is.sure;
+          sink = is.sink;
+          before = were.heard ∙ ap (λ (loads : List Load). record { faults = run.heard_before.faults; loads = loads }) (sym (append_assoc run.heard_before.loads (given_load name were.mission ∷ []) (given_load files.mission.behaviors were.behaviors ∷ [])));
+          after = is.after;
+        })
+        (turns (were.mission ∷ []) ∙ read_so []) refl were.behaviors_told status ends)
 
     -- and ends there, where nothing else is wanted
-    pub ends_behind : (status : Status) → Ended outcomes (next files []) later.sink status → EndsFrom outcomes run turn front status
-    ends_behind status ended =
+    pub ends_behind : (status : Status) → later.heard_after ≡ later.heard_before → Ended outcomes (next files []) later.sink status → EndsFrom outcomes run turn front status
+    ends_behind status silent ended =
         goes_on status
-        (ends_here outcomes later turn both status (subst (λ turn. Ended outcomes turn later.sink status) (sym (ap turn (sym (append-nil both)) ∙ stands_behind [])) ended))
+        (ends_here outcomes later turn both status silent (subst (λ turn. Ended outcomes turn later.sink status) (sym (ap turn (sym (append-nil both)) ∙ stands_behind [])) ended))

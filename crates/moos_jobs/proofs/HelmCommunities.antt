@@ -11,10 +11,12 @@ use Rattle.helm_core.specs.Iterations.{iteration_at}
 use Rattle.helm_core.specs.Plans.{Plan, plan_made}
 use Rattle.helm_core.specs.Ticks.{Tick}
 use Rattle.helm_core.specs.WellFormed.{IsWellFormedPlan, names_told, ValidFilesPlanWell}
-use Rattle.helm_core.specs.Worths.{DecidesByWorth, ValidFilesDecideByWorth}
+use Rattle.helm_core.specs.Names.{ValidFilesNameOnce}
+use Rattle.helm_core.specs.Worths.{ValidFilesDecideByWorth}
 use Rattle.moos_jobs.specs.declared.helm_files.HelmFiles.{HelmFiles}
 use Rattle.moos_jobs.specs.HelmFiles.{setup_of, helm_setup_by}
 use Rattle.moos_jobs.specs.Loading.{AreValidFiles}
+use Rattle.moos_jobs.specs.Steering.{SteersWell}
 use Rattle.ivp_cert.specs.declared.claim.Decision.{Decision}
 use Rattle.ivp_domain.specs.AxisNames.{is_axis_name}
 use Rattle.ivp_domain.specs.declared.axis.Axis.{Axis}
@@ -31,14 +33,17 @@ use Rattle.script_reader.specs.Validity.{IsValid}
 pub record AreGoodFiles (files : HelmFiles) : Type 0 where
   pub file : IsValidFile files.file
   pub formed : IsWellFormedPlan (plan_made files.mission files.file)
-  pub worth : DecidesByWorth (plan_made files.mission files.file)
+  pub steers : SteersWell (plan_made files.mission files.file)
 
 -- the files that were read for a helm are such
-pub good_files : (files : HelmFiles) → ValidFilesPlanWell → ValidFilesDecideByWorth → AreValidFiles files → AreGoodFiles files
-good_files files formed worth valid = record {
+pub good_files : (files : HelmFiles) → ValidFilesPlanWell → ValidFilesDecideByWorth → ValidFilesNameOnce → AreValidFiles files → AreGoodFiles files
+good_files files formed worth names valid = record {
   file = valid.file;
   formed = formed files.mission files.file valid.mission valid.file;
-  worth = worth files.mission files.file valid.mission valid.file valid.served;
+  steers = record {
+    worth = worth files.mission files.file valid.mission valid.file valid.served;
+    once = names files.mission files.file valid.file;
+  };
 }
 
 -- how the helm is run, where there is one

@@ -22,6 +22,7 @@ use Rattle.script_reader.specs.declared.script.Order.TheVariants.{Stamp, Race}
 use Rattle.script_reader.specs.declared.script.Script.{Script}
 use Rattle.moos_text.specs.declared.cause.Cause.TheVariants.{B1, M1, M8, P9, S7}
 use Rattle.moos_text.specs.declared.cause.ReadFault.TheVariants.{At}
+use Rattle.moos_io.specs.Faults.{Faring}
 use Rattle.command_line.specs.declared.job.Job.TheVariants.{Play, Solve, Check}
 use Rattle.command_line.specs.declared.status.FileKind.TheVariants.{Script as ScriptFile, Mission as MissionFile, Behaviors as BehaviorsFile, Problem as ProblemFile, Decision as DecisionFile}
 use Rattle.command_line.specs.declared.status.Status.TheVariants.{Done, CheckNo, Usage, WriteFault, Refused}
@@ -112,10 +113,10 @@ no_line is = omega (arith, is.once (0 ∷ []) (record { depth = 1; area = record
 
 -- so a check of the first ends with Done, and of the other one with CheckNo, and each writes which it is, to the last byte
 outputs : IsOutput (Checking decision) Done (codes "accepted\n") × IsOutput (Checking poor) CheckNo (codes "not accepted\n")
-outputs = ((accepted, refl), (not_accepted, refl))
+outputs = ((record { accepted = accepted; best = refl }, refl), (not_accepted, refl))
 
 accepts_the_poor : IsOutput (Checking poor) Done (codes "accepted\n") → ⊥
-accepts_the_poor is = not_accepted is.0
+accepts_the_poor is = not_accepted is.0.accepted
 
 says_too_little : IsOutput (Checking decision) Done (codes "accepted") → ⊥
 says_too_little is = omega (arith, ap length is.1)
@@ -216,7 +217,7 @@ fetches_lawful = record { rest = fetches; opened = refl; steered = refl; own = �
 
 reported : IsOutput (Playing Stamp script None) Done (codes "%% moosdb play 1\n%% client 0 a\n%% entry 0 0 a fetch\n%% end 1 0\n")
 unfolding digits
-reported = record { history = fetches; lawful = fetches_lawful; printed = refl; listed = λ other is text. no_other other is; worth = tt }
+reported = record { history = fetches; lawful = fetches_lawful; printed = refl; listed = λ other is text. no_other other is; steers = tt }
 
 nothing_reported : IsOutput (Playing Stamp script None) Done [] → ⊥
 nothing_reported is = let printed = is.printed in cc
@@ -228,11 +229,15 @@ sink_of before after faults = sinking (Some before) (Some after) (record { fault
 -- how the problem's job ends: all is written, or a front of it where the sink failed
 all_written : Ended outcomes (Ready (Solving problem)) (sink_of (codes "x") (codes "x" ++ decision_bytes) 0) Done
 unfolding digits
-all_written = record { task = Solving problem; good = refl; text = decision_bytes; output = refl; took = refl }
+all_written = record { task = Solving problem; good = refl; text = decision_bytes; output = record { printed = refl; accepted = accepted }; took = refl; fared = refl }
 
 front_written : Ended outcomes (Ready (Solving problem)) (sink_of [] (take 20 decision_bytes) 1) WriteFault
 unfolding digits
-front_written = (record { task = Solving problem; good = refl; status = Done; text = decision_bytes; output = refl; took = (20, omega arith, refl) }, record { rose = inl (omega arith); past = omega arith })
+front_written = (record { task = Solving problem; good = refl; status = Done; text = decision_bytes; output = record { printed = refl; accepted = accepted }; took = (20, omega arith, refl) }, record { rose = inl (omega arith); past = omega arith })
+
+-- where a put failed the job isn't done, whatever was written then
+hidden_fault : Ended outcomes (Ready (Solving problem)) (sink_of [] decision_bytes 1) Done → ⊥
+hidden_fault is = let fared : record { faults = 1; firm = 0 } ≡ record { faults = 0; firm = 0 } = is.fared in omega (arith, ap (λ (faring : Faring). faring.faults) fared)
 
 failed_without_a_fault : Ended outcomes (Ready (Solving problem)) (sink_of [] decision_bytes 0) WriteFault → ⊥
 failed_without_a_fault is =
@@ -267,7 +272,7 @@ half_done : Ended outcomes (Ready (Solving problem)) (sink_of [] (take 20 decisi
 half_done is =
     let good : Ready (Solving problem) ≡ Ready is.task = is.good in
     let task : is.task ≡ Solving problem = cc in
-    let output : is.text ≡ decision_lines [] (best_decision problem) = subst (λ task. IsOutput task Done is.text) task is.output in
+    let output : is.text ≡ decision_lines [] (best_decision problem) = (subst (λ task. IsOutput task Done is.text) task is.output).printed in
     let took : Some (take 20 decision_bytes) ≡ Some is.text = is.took in
     let same : take 20 decision_bytes ≡ is.text = cc in
     omega (arith, ap length same, ap length output, ap length printed)

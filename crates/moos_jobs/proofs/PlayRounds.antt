@@ -1,5 +1,5 @@
 -- A run without further clients that is told as it comes: its names, and the report of a lawful history.
-use Rattle.std.proofs.Common.{◌≡◌, ℕ, cond, nat_lt, Bool, true, false, List, [], ◌∷◌, length, Option, None, Some, refl, ap, sym, ◌∙◌, subst, arith, append-nil}
+use Rattle.std.proofs.Common.{◌≡◌, ℕ, cond, nat_lt, Bool, true, false, List, [], ◌∷◌, ◌++◌, length, Option, None, Some, refl, ap, sym, ◌∙◌, subst, arith, append-nil}
 use Rattle.std.specs.Prelude.{option_map}
 use Rattle.helm_core.specs.declared.iteration.Iteration.{Iteration}
 use Rattle.helm_core.specs.Plans.{wants_of}
@@ -10,9 +10,10 @@ use Rattle.moos_play.specs.Lawful.{heard_of, helm_number, IsLawful, iterations, 
 use Rattle.moos_play.specs.Plays.{clients_in, GoesOnWith, helm_in, history_in, iterations_made, Playing, script_played}
 use Rattle.moos_report.specs.declared.setup.Setup.{Setup}
 use Rattle.moos_report.specs.IterationLines.{helm_fetches, is_helm}
+use Rattle.moos_report.specs.Parts.{front_text}
 use Rattle.moos_report.specs.Report.{report_text}
 use Rattle.moos_jobs.proofs.Fetching.{fetched, IsHelmNamed, IsNamed, IsRunWell, named_beside}
-use Rattle.moos_jobs.specs.PlayTelling.{IsOfLawful}
+use Rattle.moos_jobs.specs.PlayTelling.{IsFrontOfLawful, IsOfLawful}
 use Rattle.script_reader.specs.declared.script.Order.{Order}
 use Rattle.script_reader.specs.declared.script.Script.{Script}
 use Rattle.script_reader.specs.Validity.{IsValid}
@@ -41,6 +42,21 @@ of_lawful order script helm setup names history made named lawful is = record {
   history = history;
   lawful = subst (λ names. IsLawful order script helm names history) named lawful;
   printed = ap (report_text setup names history) is ∙ ap (λ names. report_text setup names history (iterations helm script.stop (heard_of names (helm_number script) history))) named;
+}
+
+-- what is printed of a front of such a history, in which the helm fetches for just these iterations
+pub front_of_lawful : (order : Order) (script : Script) (helm : Option HelmSetup) (setup : Setup) (names : List (List ℕ)) (history rest : History) (made more : List Iteration) → names ≡ names_with script helm
+    → IsLawful order script helm names (history ++ rest) → iterations helm script.stop (heard_of names (helm_number script) (history ++ rest)) ≡ made ++ more → helm_fetches names history ≡ length made
+    → IsFrontOfLawful order script helm setup (front_text setup names history made)
+front_of_lawful order script helm setup names history rest made more named lawful is fetches = record {
+  front = history;
+  rest = rest;
+  may = subst (λ names. IsLawful order script helm names (history ++ rest)) named lawful;
+  made = made;
+  more = more;
+  iterations = ap (λ names. iterations helm script.stop (heard_of names (helm_number script) (history ++ rest))) (sym named) ∙ is;
+  fetched = ap (λ names. helm_fetches names history) (sym named) ∙ fetches;
+  printed = ap (λ names. front_text setup names history made) named;
 }
 
 -- what holds of one run holds of another by the same order, script and helm

@@ -1,13 +1,15 @@
 -- A play that is told as it comes: what each round adds, and what a front of it is a front of.
-use Rattle.std.proofs.Common.{◌≡◌, ℕ, ◌+◌, ◌<◌, ◌≤◌, List, [], ◌++◌, length, take, drop, Option, None, Some, refl, ap, sym, ◌∙◌, subst, arith, length-append, append_assoc}
-use Rattle.std.specs.Prelude.{IfSome, Result, Ok, Err, OnOk, OnErr}
+use Rattle.std.proofs.Common.{◌≡◌, ℕ, ◌+◌, ◌<◌, ◌≤◌, List, [], ◌++◌, length, take, drop, Option, None, Some, true, inl, inr, refl, ap, sym, ◌∙◌, subst, arith, length-append, append_assoc}
+use Rattle.std.specs.Prelude.{◌⊎◌, IfSome, Result, Ok, Err, OnOk, OnErr}
 use Rattle.std.proofs.Math.Seq.{take-append-add}
 use Rattle.std.proofs.Math.Nat.{div-le_self}
 use Rattle.std.proofs.lemmas.List.{drop_at, take_at, take-append-le}
 use Rattle.helm_core.specs.declared.iteration.Iteration.{Iteration}
-use Rattle.moos_io.specs.Faults.{Faring, FaresOn, Fell}
+use Rattle.moos_io.specs.declared.buffered_writer.BufferedWriter.{BufferedWriter}
+use Rattle.moos_io.specs.declared.sink.Failed.{Failed}
+use Rattle.moos_io.specs.BufferedWriting.{Sends}
+use Rattle.moos_io.specs.Faults.{Faring, Fares, Fell}
 use Rattle.moos_io.specs.Pieces.{Took, TookFront}
-use Rattle.moos_io.proofs.Writing.{fell_later}
 use Rattle.moos_post.specs.History.{History}
 use Rattle.moos_play.specs.declared.round_made.Round.{Round}
 use Rattle.moos_play.specs.Lawful.{HelmSetup}
@@ -36,14 +38,8 @@ front_behind before between after first second one (n, within, other) = (
   subst (Took before after) (sym (take-append-add first second n)) (took_both before between after first (take n second) one other),
 )
 
--- whether the second piece was taken or failed at
-pub put_behind : {E : Type 0} (put : Result (Unit {0}) E) (before between after : Option (List ℕ)) (first second : List ℕ) → Took before between first
-    → OnErr put (TookFront between after second) → OnErr put (TookFront before after (first ++ second))
-put_behind (Ok done) before between after first second one other = tt
-put_behind (Err failed) before between after first second one other = front_behind before between after first second one other
-
 -- a front of a text, or the text, is a front of a longer one
-pub front_of_more : (before after : Option (List ℕ)) (text more : List ℕ) → TookFront before after text → TookFront before after (text ++ more)
+front_of_more : (before after : Option (List ℕ)) (text more : List ℕ) → TookFront before after text → TookFront before after (text ++ more)
 front_of_more before after text more (n, within, took) =
     (n, omega (arith, within, length-append text more), subst (Took before after) (sym (take-append-le n text more (omega (arith, within)))) took)
 
@@ -163,25 +159,32 @@ whole_text setup play =
     sym (append_assoc (head_text setup (clients_in play)) (entries_text setup 0 (iterations_made play) (clients_in play) [] (history_in play)) (end_text (history_in play)))
 
 -- a play in which nothing is left, whose report may be so, and whose end is put
-pub end_told : {E : Type 0} (setup : Setup) (play : Playing) (MayBe : List ℕ → Type 0) (before between after : Option (List ℕ)) (first then last : Faring) (put : Result (Unit {0}) E) (status : Status)
+pub end_told : {E : Type 0} (setup : Setup) (play : Playing) (MayBe IsPart : List ℕ → Type 0) (before between after : Option (List ℕ)) (first then last : Faring) (put : Result (Unit {0}) E) (status : Status)
     → MayBe (report_text setup (clients_in play) (history_in play) (iterations_made play)) → IsToldSoFar setup before between play
-    → OnOk put (Took between after (end_text (history_in play))) → OnErr put (TookFront between after (end_text (history_in play))) → FaresOn first then → OnErr put (Fell then last after)
-    → OnOk put (status ≡ Done) → OnErr put (status ≡ WriteFault) → Tells MayBe (sinking before after first last) status
-end_told setup play MayBe before between after first then last (Ok put) status may told took front later rose all fault =
+    → OnOk put (Took between after (end_text (history_in play))) → OnErr put (TookFront between after (end_text (history_in play))) → then ≡ first → Fares put then last → OnErr put (Fell then last after)
+    → OnOk put (status ≡ Done) → OnErr put (status ≡ WriteFault) → Tells MayBe IsPart (sinking before after first last) status
+end_told setup play MayBe IsPart before between after first then last (Ok put) status may told took front same fares rose all fault =
     rw all (record {
       text = front_text setup (clients_in play) (history_in play) (iterations_made play) ++ end_text (history_in play);
       may = subst MayBe (whole_text setup play) may;
       took = took_both before between after (front_text setup (clients_in play) (history_in play) (iterations_made play)) (end_text (history_in play)) told took;
+      fared = fares ∙ same;
     })
-end_told setup play MayBe before between after first then last (Err failed) status may told took front later rose all fault =
+end_told setup play MayBe IsPart before between after first then last (Err failed) status may told took front same fares rose all fault =
     rw fault (
       record {
         text = front_text setup (clients_in play) (history_in play) (iterations_made play) ++ end_text (history_in play);
         may = subst MayBe (whole_text setup play) may;
         took = front_behind before between after (front_text setup (clients_in play) (history_in play) (iterations_made play)) (end_text (history_in play)) told front;
       },
-      fell_later first then last after later rose,
+      subst (λ first. Fell first last after) same rose,
     )
+
+-- a writer that sent a text has failed, or holds nothing
+pub sent_over : {S : Type 0} {taken : S → Option (List ℕ)} {faults : S → Faring} {before after : BufferedWriter S} {text : List ℕ} (result : Result (Unit {0}) Failed)
+    → Sends taken faults before after result text → (after.failed ≡ true) ⊎ (after.buffer ≡ [])
+sent_over (Ok done) sends = inr sends.clear.empty
+sent_over (Err failed) sends = inl sends.failed
 
 -- the iterations of a play are few
 pub few_made : (play : Playing) → IsRunWell play → length (iterations_made play) ≤ 1000000001

@@ -5,37 +5,44 @@ use Rattle.std.specs.Fmt.{digits}
 use Rattle.ivp_cert.specs.Certificates.{best_decision}
 use Rattle.ivp_cert.specs.Texts.{decision_lines}
 use Rattle.moos_io.specs.Faults.{Rose}
-use Rattle.moos_io.specs.Files.{file_content, is_among}
+use Rattle.moos_files.specs.Files.{file_content, is_among}
 use Rattle.ivp_cert.specs.Problems.{problem_of}
 use Rattle.ivp_problem.specs.Problems.{WeightedSum}
 use Rattle.moos_text.specs.declared.cause.Cause.TheVariants.{P1}
 use Rattle.moos_text.specs.declared.cause.ReadFault.{ReadFault}
-use Rattle.script_reader.specs.declared.script.Order.TheVariants.{Stamp}
-use Rattle.command_line.specs.declared.job.Job.TheVariants.{Play, Solve, Check}
+use Rattle.command_line.specs.declared.job.Job.TheVariants.{Solve, Check}
 use Rattle.command_line.specs.declared.status.FileKind.{FileKind}
 use Rattle.command_line.specs.declared.status.FileKind.TheVariants.{Problem as ProblemFile}
 use Rattle.command_line.specs.declared.status.Status.{Status}
 use Rattle.command_line.specs.declared.status.Status.TheVariants.{Done, CheckNo, Usage, LoadFault, WriteFault, Refused, NoMemory}
-use Rattle.moos_jobs.specs.Jobs.Task.{Checking, Playing, Solving}
+use Rattle.moos_jobs.specs.Jobs.Task.{Checking, Solving}
 use Rattle.command_line.specs.Turns.{Ready, turn_behind, Unfit, Wanted, HasBytes}
-use Rattle.moos_jobs.specs.Jobs.{IsToPlay, outcomes, turn_of}
+use Rattle.moos_jobs.specs.Jobs.{IsPartOutput, outcomes, turn_of}
 use Rattle.command_line.specs.Endings.{DidFrom, Surroundings, surroundings, Ended, WroteAll}
-use Rattle.moos_jobs.specs.Run.{Completes, DidJob, HasFiles, IsServed, EndsWith, Refuses}
+use Rattle.moos_files.specs.Heard.{Hearing, failed_load, given_load}
+use Rattle.moos_jobs.specs.Run.{Completes, DidJob, IsServed, EndsWith, Refuses}
 use Rattle.moos_jobs.proofs.Endings.{completes, ended_with, Good, IsOver, output_of, refuses}
-use Rattle.command_line.proofs.Examples.{checks, plays, solves_by_one}
-use Rattle.moos_jobs.proofs.JobExamples.{accepted, decision, decision_bytes, fetches_lawful, no_other, not_accepted, poor, poor_bytes, printed, problem, problem_bytes, script, sink_of}
+use Rattle.command_line.proofs.Examples.{checks, solves_by_one}
+use Rattle.moos_jobs.proofs.JobExamples.{accepted, decision, decision_bytes, not_accepted, poor, poor_bytes, printed, problem, problem_bytes, sink_of}
 
 -- the words of a run that solves a problem, and what surrounds it, by what the file holds, what the sink has taken, and how often it failed; the folder tells its
 -- files and is sure of this one
-abbrev folder : List ℕ → List ℕ → List ℕ → Option (List ℕ)
+abbrev pub folder : List ℕ → List ℕ → List ℕ → Option (List ℕ)
 folder name bytes = file_content (record { name = name; bytes = bytes } ∷ [])
 
 abbrev solve : List (List ℕ)
 solve = codes "solve" ∷ codes "p" ∷ []
 
+-- nothing was loaded so far; then one file was
+abbrev pub unheard : Hearing
+unheard = record { faults = 0; loads = [] }
+
+abbrev pub one_load : List ℕ → List ℕ → Hearing
+one_load name bytes = record { faults = 0; loads = given_load name bytes ∷ [] }
+
 abbrev solving : List ℕ → List ℕ → ℕ → Surroundings
 solving bytes taken put_faults =
-    surroundings (Some (folder (codes "p") bytes)) (codes "p" ∷ []) 0 0 (sink_of [] taken put_faults)
+    surroundings (Some (folder (codes "p") bytes)) (codes "p" ∷ []) unheard (one_load (codes "p") bytes) (sink_of [] taken put_faults)
 
 none_rose : Rose 0 0 → ⊥
 none_rose (inl rose) = omega arith
@@ -61,7 +68,7 @@ solved =
     record {
       job = Solve (codes "p") 1;
       named = solves_by_one;
-      ended = record { files = problem_bytes ∷ []; loaded = (refl, tt); ended = record { task = Solving problem; good = refl; text = decision_bytes; output = refl; took = refl } };
+      ended = record { files = problem_bytes ∷ []; loaded = (refl, tt); heard = refl; ended = record { task = Solving problem; good = refl; text = decision_bytes; output = record { printed = refl; accepted = accepted }; took = refl; fared = refl } };
     }
 
 -- how it ended, by what its file holds
@@ -73,7 +80,7 @@ solving_ended taken status is did over =
 all_written : (taken : List ℕ) → EndsWith solve (solving problem_bytes taken 0) Done → taken ≡ decision_bytes
 all_written taken is =
     let wrote : WroteAll outcomes (Ready (Solving problem)) Done (sink_of [] taken 0) = solving_ended taken Done is is.ended (Good is.ended.ended.task is.ended.ended.good) in
-    let output : wrote.text ≡ decision_lines [] (best_decision problem) = output_of (Solving problem) Done (sink_of [] taken 0) wrote in
+    let output : wrote.text ≡ decision_lines [] (best_decision problem) = (output_of (Solving problem) Done (sink_of [] taken 0) wrote).printed in
     let took : Some taken ≡ Some wrote.text = wrote.took in
     let same : taken ≡ wrote.text = cc in
     same ∙ output ∙ printed
@@ -104,7 +111,8 @@ write_failed =
           record {
             files = problem_bytes ∷ [];
             loaded = (refl, tt);
-            ended = (record { task = Solving problem; good = refl; status = Done; text = decision_bytes; output = refl; took = (20, omega arith, refl) }, record { rose = inl (omega arith); past = omega arith });
+            heard = refl;
+            ended = (record { task = Solving problem; good = refl; status = Done; text = decision_bytes; output = record { printed = refl; accepted = accepted }; took = (20, omega arith, refl) }, record { rose = inl (omega arith); past = omega arith });
           };
     }
 
@@ -113,32 +121,36 @@ told_no_fault is = none_rose is.ended.ended.1.rose
 
 -- NoMemory: nothing was written, and no front of a decision
 no_memory : EndsWith solve (solving problem_bytes [] 0) NoMemory
-no_memory = inl (record { taken = refl; faults = refl })
+no_memory = inr (record {
+  job = Solve (codes "p") 1;
+  named = solves_by_one;
+  ended = record { files = problem_bytes ∷ []; loaded = (refl, tt); heard = inl refl; ended = inl (record { taken = refl; faults = refl }) };
+})
 
 wrote_without_memory : EndsWith solve (solving problem_bytes (take 20 decision_bytes) 0) NoMemory → ⊥
-wrote_without_memory (inl untouched) = let taken : Some (take 20 decision_bytes) ≡ Some [] = untouched.taken in cc
+wrote_without_memory (inl none) = let taken : Some (take 20 decision_bytes) ≡ Some [] = none.silent.taken in cc
 wrote_without_memory (inr is) = elim is.ended.ended [
   | inl untouched ↦ let taken : Some (take 20 decision_bytes) ≡ Some [] = untouched.taken in cc
   | inr wrote ↦
-      elim (solving_ended (take 20 decision_bytes) NoMemory is is.ended (Good wrote.0.task wrote.0.good)) [
+      elim (solving_ended (take 20 decision_bytes) NoMemory is is.ended (Good wrote.front.task wrote.front.good)) [
         | inl untouched ↦ let taken : Some (take 20 decision_bytes) ≡ Some [] = untouched.taken in cc
-        | inr front ↦
-            let both : Ready (Solving problem) ≡ Ready front.0.task = front.0.good in
-            let same : Solving problem ≡ front.0.task = cc in
-            subst IsToPlay (sym same) front.1
+        | inr part ↦
+            let both : Ready (Solving problem) ≡ Ready part.front.task = part.front.good in
+            let same : Solving problem ≡ part.front.task = cc in
+            subst (λ task. IsPartOutput task part.text) (sym same) part.stands
       ]
 ]
 
 -- Usage: the words name no job, nothing was loaded, and nothing was written
 sails : (faults : ℕ) (taken : List ℕ) → Surroundings
-sails faults taken = surroundings None [] 0 faults (sink_of [] taken 0)
+sails faults taken = surroundings None [] unheard (record { faults = faults; loads = [] }) (sink_of [] taken 0)
 
 abbrev sail : List (List ℕ)
 sail = codes "sail" ∷ codes "p" ∷ []
 
 usage : EndsWith sail (sails 0 []) Usage
 unfolding sails
-usage = record { unnamed = refl; load_faults = refl; silent = record { taken = refl; faults = refl } }
+usage = record { unnamed = refl; heard = refl; silent = record { taken = refl; faults = refl } }
 
 wrote_its_usage : EndsWith sail (sails 0 (codes "usage\n")) Usage → ⊥
 unfolding sails
@@ -146,7 +158,7 @@ wrote_its_usage is = let taken : Some (codes "usage\n") ≡ Some [] = is.silent.
 
 loaded_nothing : EndsWith sail (sails 1 []) Usage → ⊥
 unfolding sails
-loaded_nothing is = omega (arith, is.load_faults)
+loaded_nothing is = omega (arith, ap (λ (heard : Hearing). heard.faults) is.heard)
 
 named_a_job : EndsWith solve (solving problem_bytes [] 0) Usage → ⊥
 named_a_job is = let both : None ≡ Some (Solve (codes "p") 1) = sym is.unnamed ∙ solves_by_one in cc
@@ -154,13 +166,13 @@ named_a_job is = let both : None ≡ Some (Solve (codes "p") 1) = sym is.unnamed
 -- LoadFault: the folder failed at a file that it isn't sure of, its fault was counted, and nothing was written
 abbrev loading : List (List ℕ) → ℕ → List ℕ → Surroundings
 loading sure load_faults taken =
-    surroundings (Some (folder (codes "p") problem_bytes)) sure 0 load_faults (sink_of [] taken 0)
+    surroundings (Some (folder (codes "p") problem_bytes)) sure unheard (record { faults = load_faults; loads = failed_load (codes "p") ∷ [] }) (sink_of [] taken 0)
 
 not_loaded : EndsWith solve (loading [] 1 []) LoadFault
 not_loaded = record {
   job = Solve (codes "p") 1;
   named = solves_by_one;
-  ended = record { rose = inl (omega arith); files = []; loaded = tt; kind = ProblemFile; name = codes "p"; wanted = refl; unsure = refl; silent = record { taken = refl; faults = refl } };
+  ended = record { rose = inl (omega arith); files = []; loaded = tt; kind = ProblemFile; name = codes "p"; wanted = refl; heard = refl; unsure = refl; silent = record { taken = refl; faults = refl } };
 }
 
 -- a job that solves a problem wants no other file
@@ -194,7 +206,7 @@ refused : EndsWith solve (solving (codes "ivp 2\n") [] 0) (refusal ProblemFile 1
 refused = record {
   job = Solve (codes "p") 1;
   named = solves_by_one;
-  ended = record { files = codes "ivp 2\n" ∷ []; loaded = (refl, tt); ended = (refl, record { taken = refl; faults = refl }) };
+  ended = record { files = codes "ivp 2\n" ∷ []; loaded = (refl, tt); heard = refl; ended = (refl, record { taken = refl; faults = refl }) };
 }
 
 refused_and_written : EndsWith solve (solving (codes "ivp 2\n") (codes "ivp 2\n") 0) (refusal ProblemFile 1) → ⊥
@@ -232,7 +244,7 @@ abbrev check : List (List ℕ)
 check = codes "check" ∷ codes "d" ∷ []
 
 abbrev checking : List ℕ → List ℕ → Surroundings
-checking bytes taken = surroundings (Some (folder (codes "d") bytes)) [] 0 0 (sink_of [] taken 0)
+checking bytes taken = surroundings (Some (folder (codes "d") bytes)) [] unheard (one_load (codes "d") bytes) (sink_of [] taken 0)
 
 asked : (bytes taken : List ℕ) → IsServed check (checking bytes taken) (Check (codes "d")) (bytes ∷ [])
 asked bytes taken = record { has = record { told = folder (codes "d") bytes; telling = refl; named = checks; loaded = (refl, tt) }; loads = none_rose; puts = none_rose }
@@ -246,7 +258,8 @@ checked =
           record {
             files = decision_bytes ∷ [];
             loaded = (refl, tt);
-            ended = record { task = Checking decision; good = refl; text = codes "accepted\n"; output = (accepted, refl); took = refl };
+            heard = refl;
+            ended = record { task = Checking decision; good = refl; text = codes "accepted\n"; output = (record { accepted = accepted; best = refl }, refl); took = refl; fared = refl };
           };
     }
 
@@ -259,7 +272,8 @@ checked_poor =
           record {
             files = poor_bytes ∷ [];
             loaded = (refl, tt);
-            ended = record { task = Checking poor; good = refl; text = codes "not accepted\n"; output = (not_accepted, refl); took = refl };
+            heard = refl;
+            ended = record { task = Checking poor; good = refl; text = codes "not accepted\n"; output = (not_accepted, refl); took = refl; fared = refl };
           };
     }
 
@@ -267,77 +281,13 @@ accepted_the_poor : EndsWith check (checking poor_bytes (codes "accepted\n")) Do
 accepted_the_poor is =
     let wrote = ended_with check (checking poor_bytes (codes "accepted\n")) (Check (codes "d")) (poor_bytes ∷ []) (asked poor_bytes (codes "accepted\n")).has (Ready (Checking poor)) refl
     (Good (Checking poor) refl) Done is.job is.named is.ended (Good is.ended.ended.task is.ended.ended.good) in
-    not_accepted (output_of (Checking poor) Done (sink_of [] (codes "accepted\n") 0) wrote).0
+    not_accepted (output_of (Checking poor) Done (sink_of [] (codes "accepted\n") 0) wrote).0.accepted
 
 refused_the_best : EndsWith check (checking decision_bytes (codes "not accepted\n")) CheckNo → ⊥
 refused_the_best is =
     let wrote = ended_with check (checking decision_bytes (codes "not accepted\n")) (Check (codes "d")) (decision_bytes ∷ []) (asked decision_bytes (codes "not accepted\n")).has (Ready (Checking decision)) refl
     (Good (Checking decision) refl) CheckNo is.job is.named is.ended (Good is.ended.ended.task is.ended.ended.good) in
     (output_of (Checking decision) CheckNo (sink_of [] (codes "not accepted\n") 0) wrote).0 accepted
-
--- a script was played where a report was written, and not where nothing was
-abbrev play : List (List ℕ)
-play = codes "play" ∷ codes "survey.txt" ∷ []
-
-abbrev playing : List ℕ → Surroundings
-playing taken = surroundings (Some (folder (codes "survey.txt") (codes "0 a fetch\n"))) [] 0 0 (sink_of [] taken 0)
-
-played : EndsWith play (playing (codes "%% moosdb play 1\n%% client 0 a\n%% entry 0 0 a fetch\n%% end 1 0\n")) Done
-unfolding digits
-played =
-    record {
-      job = Play (codes "survey.txt") None Stamp 1;
-      named = plays;
-      ended =
-          record {
-            files = codes "0 a fetch\n" ∷ [];
-            loaded = (refl, tt);
-            ended =
-                record {
-                  task = Playing Stamp script None;
-                  good = refl;
-                  text = codes "%% moosdb play 1\n%% client 0 a\n%% entry 0 0 a fetch\n%% end 1 0\n";
-                  output = record { history = script.lines; lawful = fetches_lawful; printed = refl; listed = λ other is text. no_other other is; worth = tt };
-                  took = refl;
-                };
-          };
-    }
-
--- without memory a front of it may be out
-front_played : EndsWith play (playing (codes "%% moosdb play 1\n%% client 0 a\n")) NoMemory
-unfolding digits
-front_played =
-    inr (record {
-      job = Play (codes "survey.txt") None Stamp 1;
-      named = plays;
-      ended =
-          record {
-            files = codes "0 a fetch\n" ∷ [];
-            loaded = (refl, tt);
-            ended = inr (
-              record {
-                task = Playing Stamp script None;
-                good = refl;
-                status = Done;
-                text = codes "%% moosdb play 1\n%% client 0 a\n%% entry 0 0 a fetch\n%% end 1 0\n";
-                output = record { history = script.lines; lawful = fetches_lawful; printed = refl; listed = λ other is text. no_other other is; worth = tt };
-                took = (31, omega arith, refl);
-              },
-              tt,
-            );
-          };
-    })
-
-played_silently : EndsWith play (playing []) Done → ⊥
-played_silently is =
-    let has : HasFiles play (playing []) (Play (codes "survey.txt") None Stamp 1) (codes "0 a fetch\n" ∷ [])
-    = record { told = folder (codes "survey.txt") (codes "0 a fetch\n"); telling = refl; named = plays; loaded = (refl, tt) } in
-    let wrote : WroteAll outcomes (Ready (Playing Stamp script None)) Done (sink_of [] [] 0)
-    = ended_with play (playing []) (Play (codes "survey.txt") None Stamp 1) (codes "0 a fetch\n" ∷ []) has (Ready (Playing Stamp script None)) refl (Good (Playing Stamp script None) refl)
-    Done is.job is.named is.ended (Good is.ended.ended.task is.ended.ended.good) in
-    let printed = (output_of (Playing Stamp script None) Done (sink_of [] [] 0) wrote).printed in
-    let took : Some [] ≡ Some wrote.text = wrote.took in
-    cc
 
 -- where nothing failed, a good file's job is done and a bad file is refused, or no memory was left
 completed : Completes solve (solving problem_bytes decision_bytes 0) Done × Completes solve (solving problem_bytes [] 0) NoMemory

@@ -1,12 +1,13 @@
 -- A play of a simulation: what is told of it is what the job may write.
-use Rattle.std.proofs.Common.{◌≡◌, ℕ, zero, suc, Bool, List, [], length, false, true, Option, None, Some, refl, ap, sym, ◌∙◌, subst}
+use Rattle.std.proofs.Common.{◌≡◌, ℕ, zero, suc, Bool, List, [], ◌++◌, length, false, true, Option, None, Some, refl, ap, sym, ◌∙◌, subst}
 use Rattle.std.specs.Prelude.{is_some, Result, Err}
 use Rattle.helm_core.specs.declared.iteration.Iteration.{Iteration}
 use Rattle.moos_play.specs.Lawful.{heard_of, iterations, HelmSetup}
 use Rattle.moos_play.specs.Plays.{clients_in, GoesOnWith, helm_in, Playing, script_played}
 use Rattle.moos_post.specs.History.{History}
 use Rattle.moos_report.specs.declared.setup.Setup.{Setup}
-use Rattle.moos_report.specs.IterationLines.{is_helm}
+use Rattle.moos_report.specs.IterationLines.{helm_fetches, is_helm}
+use Rattle.moos_report.specs.Parts.{front_text}
 use Rattle.moos_report.specs.Report.{report_text}
 use Rattle.moos_simulate.specs.declared.gear.Gear.{Gear}
 use Rattle.moos_simulate.specs.declared.vehicle.Vehicle.{Vehicle}
@@ -18,7 +19,7 @@ use Rattle.moos_text.specs.declared.cause.ReadFault.TheVariants.{At, NoMemory as
 use Rattle.moos_text.specs.Refusals.{and_then, IsFirst}
 use Rattle.script_reader.specs.declared.script.Script.{Script}
 use Rattle.script_reader.specs.Validity.{IsValid}
-use Rattle.moos_jobs.specs.Simulating.{helm_sailed, IsOfSimulation, IsSailed, IsVoyage, iterations_sailed, names_sailed, Simulation, voyage_text}
+use Rattle.moos_jobs.specs.Simulating.{helm_sailed, IsFrontOfVoyage, IsOfSimulation, IsSailed, IsVoyage, iterations_sailed, names_sailed, Simulation, voyage_text}
 
 -- none of the vehicle's clients has the helm's name
 no_helm : (watched : Bool) (client : ℕ) → is_helm (vehicle_names watched) client ≡ false
@@ -48,7 +49,30 @@ of_on task setup gear gear' old new on same of = record {
   same_setup = of.same_setup;
   told = of.told;
   ranges = of.ranges;
-  worth = of.worth;
+  steers = of.steers;
+}
+
+-- a history that a vehicle leaves beside such a play is one that the simulation may leave
+sailed_by : (task : Simulation) (setup : Setup) (gear : Gear) (script : Script) (helm : Option HelmSetup) (names : List (List ℕ)) (history : History) → IsOfSimulation task setup gear script helm names
+    → IsSimulated script helm gear names history → IsSailed task history
+sailed_by task setup gear script helm names history of simulated =
+    subst (λ gear. IsSimulated task.script (Some (helm_sailed task)) gear (names_sailed task) history) of.same_gear
+    (subst (λ names. IsSimulated task.script (Some (helm_sailed task)) gear names history) of.same_names
+    (subst (λ helm. IsSimulated task.script helm gear names history) of.same_helm (subst (λ script. IsSimulated script helm gear names history) of.same_script simulated)))
+
+-- what is printed of a front of such a history, in which the helm fetches for just these iterations
+pub front_sailed : (task : Simulation) (setup : Setup) (gear : Gear) (script : Script) (helm : Option HelmSetup) (names : List (List ℕ)) (history rest : History) (made more : List Iteration)
+    → IsOfSimulation task setup gear script helm names → IsSimulated script helm gear names (history ++ rest)
+    → iterations helm script.stop (heard_of names (length script.names) (history ++ rest)) ≡ made ++ more → helm_fetches names history ≡ length made → IsFrontOfVoyage task (front_text setup names history made)
+front_sailed task setup gear script helm names history rest made more of simulated is fetches = record {
+  front = history;
+  rest = rest;
+  may = sailed_by task setup gear script helm names (history ++ rest) of simulated;
+  made = made;
+  more = more;
+  iterations = sym (λ i. iterations (of.same_helm i) (of.same_script i).stop (heard_of (of.same_names i) (length (of.same_script i).names) (history ++ rest))) ∙ is;
+  fetched = ap (λ names. helm_fetches names history) (sym of.same_names) ∙ fetches;
+  printed = λ i. front_text (of.same_setup i) (of.same_names i) history made;
 }
 
 -- the report of a history that a vehicle leaves beside such a play
@@ -61,13 +85,11 @@ may_report task setup gear script helm names history made of simulated is = reco
   printed = printed;
   listed = λ other may also. of.told history other sailed may (sym also ∙ printed);
   ranges = of.ranges;
-  worth = of.worth;
+  steers = of.steers;
 }
   where
     sailed : IsSailed task history
-    sailed = subst (λ gear. IsSimulated task.script (Some (helm_sailed task)) gear (names_sailed task) history) of.same_gear
-        (subst (λ names. IsSimulated task.script (Some (helm_sailed task)) gear names history) of.same_names
-        (subst (λ helm. IsSimulated task.script helm gear names history) of.same_helm (subst (λ script. IsSimulated script helm gear names history) of.same_script simulated)))
+    sailed = sailed_by task setup gear script helm names history of simulated
 
     made_is : made ≡ iterations_sailed task history
     made_is = sym is ∙ (λ i. iterations (of.same_helm i) (of.same_script i).stop (heard_of (of.same_names i) (length (of.same_script i).names) history))

@@ -11,6 +11,7 @@ use Rattle.moos_post.specs.History.{History}
 use Rattle.moos_jobs.specs.Jobs.{IsLawfulWith, iterations_on}
 use Rattle.moos_jobs.specs.declared.helm_files.HelmFiles.{HelmFiles}
 use Rattle.moos_jobs.specs.declared.counts.IterationCounts.{IterationCounts}
+use Rattle.moos_jobs.specs.Loading.{AreValidFiles}
 use Rattle.moos_jobs.specs.Summary.{iterations_counted}
 use Rattle.script_reader.specs.declared.script.Order.TheVariants.{Stamp}
 
@@ -21,6 +22,7 @@ pub record IsSurvey (run : HelmRun) : Type 0 where
   pub behaviors : generated_behaviors ≡ Ok files.file
   pub plan : plan_of run.helm ≡ plan_made files.mission files.file
   pub period : run.period ≡ files.mission.period
+  pub valid : AreValidFiles files
   pub start : MayStart run
 
 -- the clients' names, a lawful history of the mission with this number, and what is counted of the helm's iterations in it
@@ -28,6 +30,7 @@ pub record WasGenerated (number : ℕ) (names : List (List ℕ)) (history : Hist
   pub files : HelmFiles
   pub mission : generated_mission ≡ Ok files.mission
   pub behaviors : generated_behaviors ≡ Ok files.file
+  pub valid : AreValidFiles files
   pub rises : IsTrue (rise_within 0 600000 (generated_script number).lines)
   pub named : names ≡ names_with (generated_script number) (Some files)
   pub lawful : IsLawfulWith Stamp (generated_script number) (Some files) history

@@ -5,13 +5,13 @@ use Rattle.moos_jobs.specs.declared.helm_files.HelmFiles.{HelmFiles}
 use Rattle.moos_jobs.specs.HelmFiles.{setup_of, helm_setup_by}
 use Rattle.moos_jobs.specs.Loading.{helm_turn}
 use Rattle.helm_core.specs.Plans.{plan_made}
-use Rattle.helm_core.specs.Worths.{DecidesByWorth}
 use Rattle.ivp_cert.specs.declared.claim.Decision.{Decision}
 use Rattle.ivp_cert.specs.Certificates.{Accepts}
 use Rattle.ivp_cert.specs.Decisions.{decision_of}
 use Rattle.ivp_cert.specs.Problems.{problem_of}
 use Rattle.ivp_cert.specs.Texts.{decision_lines}
 use Rattle.ivp_problem.specs.Problems.{WeightedSum}
+use Rattle.ivp_problem.specs.Sums.{best_of}
 use Rattle.moos_post.specs.History.{History}
 use Rattle.moos_report.specs.Report.{report_text}
 use Rattle.mission_maker.specs.Generated.{generated_script}
@@ -31,7 +31,9 @@ use Rattle.command_line.specs.declared.status.Status.TheVariants.{Done, CheckNo}
 use Rattle.script_reader.specs.declared.script.Script.{Script}
 use Rattle.script_reader.specs.Script.{script_of}
 use Rattle.moos_jobs.specs.Sharing.{IsSharing, share_turn, ShareTask}
-use Rattle.moos_jobs.specs.Simulating.{MayReport, simulate_turn, Simulation}
+use Rattle.moos_jobs.specs.Steering.{SteersWell}
+use Rattle.moos_jobs.specs.PrintedFronts.{IsFrontPrinted}
+use Rattle.moos_jobs.specs.Simulating.{IsFrontOfVoyage, MayReport, simulate_turn, Simulation}
 
 -- what is to be done: a script is played in an order, with a helm or without; a problem is solved, a decision is checked; a
 -- mission is made from a number and summed up; two scripts are played with a bridge between their communities; a script is played beside a
@@ -88,10 +90,10 @@ pub record IsReport (order : Order) (script : Script) (helm : Option HelmFiles) 
   pub lawful : IsLawfulWith order script helm history
   pub printed : text ≡ report_on script helm history
   pub listed : (other : History) → IsLawfulWith order script helm other → text ≡ report_on script helm other → other ≡ history
-  pub worth : IfSome helm (λ files. DecidesByWorth (plan_made files.mission files.file))
+  pub steers : IfSome helm (λ files. SteersWell (plan_made files.mission files.file))
 
 -- The text is the summary of the one history that the mission of this number leaves: counts and sums over it and the helm's
--- iterations in it.
+-- iterations in it. What the helm decides in it is decided by worth.
 pub record IsSummary (number : ℕ) (text : List ℕ) : Type 0 where
   pub files : HelmFiles
   pub mission : generated_mission ≡ Ok files.mission
@@ -100,31 +102,42 @@ pub record IsSummary (number : ℕ) (text : List ℕ) : Type 0 where
   pub lawful : IsLawfulWith Stamp (generated_script number) (Some files) history
   pub printed : text ≡ summary_text number (names_with (generated_script number) (Some files)) history (iterations_on (generated_script number) (Some files) history)
   pub sole : (other : History) → IsLawfulWith Stamp (generated_script number) (Some files) other → other ≡ history
+  pub steers : SteersWell (plan_made files.mission files.file)
 
 -- the decision's certificate is accepted for what it claims
 abbrev pub IsAccepted : Decision → Type 0
 IsAccepted decision = Accepts decision.problem decision.claim decision.cert
+
+-- the decision's certificate is accepted, and so the point that it claims is the problem's best: the first of those of greatest sum
+pub record IsProvedBest (decision : Decision) : Type 0 where
+  pub accepted : IsAccepted decision
+  pub best : decision.claim.point ≡ best_of decision.problem
+
+-- the text is that of the decision on the problem, which claims the best point, and whose certificate is accepted for it
+pub record IsSolution (problem : WeightedSum) (text : List ℕ) : Type 0 where
+  pub printed : text ≡ decision_lines [] (best_decision problem)
+  pub accepted : IsAccepted (best_decision problem)
 
 -- a job may end with this status and write this text: of a script the report of a lawful history, of a problem the decision
 -- on it, of a decision whether it is accepted, of a number the summary of its mission, of two scripts with a bridge the reports of
 -- two histories, of a simulation the report of a history that its vehicle leaves; and nothing with another status
 abbrev pub IsOutput : Task → Status → List ℕ → Type 0
 IsOutput (Playing order script helm) Done text = IsReport order script helm text
-IsOutput (Solving problem) Done text = text ≡ decision_lines [] (best_decision problem)
-IsOutput (Checking decision) Done text = IsAccepted decision × (text ≡ codes "accepted\n")
+IsOutput (Solving problem) Done text = IsSolution problem text
+IsOutput (Checking decision) Done text = IsProvedBest decision × (text ≡ codes "accepted\n")
 IsOutput (Checking decision) CheckNo text = (IsAccepted decision → ⊥) × (text ≡ codes "not accepted\n")
 IsOutput (Generating number) Done text = IsSummary number text
 IsOutput (Sharing task) status text = IsSharing task status text
 IsOutput (Simulating task) status text = MayReport task status text
 IsOutput task status text = ⊥
 
--- the task is to play a script, beside a vehicle or not, whose report is written as it comes; every other output is written when all of it
--- is there
-abbrev pub IsToPlay : Task → Type 0
-IsToPlay (Playing order script helm) = Unit {0}
-IsToPlay (Simulating task) = Unit {0}
-IsToPlay task = ⊥
+-- The text may stand there when no memory is left: of a script that is played, beside a vehicle or not, whose report is written as it comes,
+-- what is printed of a front of a history that it may leave. Every other output is written when all of it is there.
+abbrev pub IsPartOutput : Task → List ℕ → Type 0
+IsPartOutput (Playing order script helm) text = IsFrontPrinted (setup_of helm) (names_with script helm) (IsLawfulWith order script helm) (iterations_on script helm) text
+IsPartOutput (Simulating task) text = IsFrontOfVoyage task text
+IsPartOutput task text = ⊥
 
 -- what may come of each task
 abbrev pub outcomes : Outcomes Task
-outcomes = record { MayWrite = IsOutput; IsWrittenAsItComes = IsToPlay }
+outcomes = record { MayWrite = IsOutput; MayStand = IsPartOutput }

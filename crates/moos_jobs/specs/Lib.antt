@@ -2,10 +2,12 @@ pub mod HelmFiles
 pub mod Loading
 pub mod Telling
 pub mod PlayTelling
+pub mod PrintedFronts
 pub mod Summary
 pub mod SoleHistory
 pub mod Sharing
 pub mod Simulating
+pub mod Steering
 pub mod Generating
 pub mod Jobs
 pub mod Run

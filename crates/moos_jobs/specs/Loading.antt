@@ -10,6 +10,7 @@ use Rattle.moos_jobs.specs.HelmFiles.{with_few_ticks}
 use Rattle.mission_reader.specs.declared.mission.Mission.{Mission}
 use Rattle.mission_reader.specs.Missions.{mission_of}
 use Rattle.mission_reader.specs.Validity.{IsValidMission}
+use Rattle.moos_files.specs.Heard.{Hearing, given_load, with_loads}
 use Rattle.moos_text.specs.Refusals.{and_then}
 use Rattle.script_reader.specs.declared.script.Script.{Script}
 
@@ -33,17 +34,18 @@ helm_alone files more = Ready files
 
 -- who reads writes nothing
 abbrev pub nothing_written : Outcomes HelmFiles
-nothing_written = record { MayWrite = λ files status text. ⊥; IsWrittenAsItComes = λ files. ⊥ }
+nothing_written = record { MayWrite = λ files status text. ⊥; MayStand = λ files text. ⊥ }
 
 -- the files of a helm are in the bytes that the folder tells, if it does: a mission under this name, and the behaviour file that
 -- it names
-pub record WereLoaded (told : Option (List ℕ → Option (List ℕ))) (script : Script) (name : List ℕ) (files : HelmFiles) : Type 0 where
+pub record WereLoaded (told : Option (List ℕ → Option (List ℕ))) (before after : Hearing) (script : Script) (name : List ℕ) (files : HelmFiles) : Type 0 where
   pub mission : List ℕ
   pub mission_told : HasBytes told name mission
   pub mission_read : and_then (with_few_ticks script) (mission_of mission) ≡ Ok files.mission
   pub behaviors : List ℕ
   pub behaviors_told : HasBytes told files.mission.behaviors behaviors
   pub behaviors_read : behaviors_of files.mission.domain behaviors ≡ Ok files.file
+  pub heard : after ≡ with_loads before (given_load name mission ∷ given_load files.mission.behaviors behaviors ∷ [])
 
 -- a mission and a behaviour file are as their readers leave them, and the mission's domain has the axes that the behaviours need
 pub record AreValidFiles (files : HelmFiles) : Type 0 where

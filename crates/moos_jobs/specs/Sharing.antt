@@ -1,16 +1,18 @@
 -- Which files the job reads that shares between two communities, what is to be done with them, and what it may write.
 use Rattle.std.specs.Prelude.{◌≡◌, ℕ, false, List, [], ◌∷◌, ◌++◌, codes, Result, Ok, Err}
-use Rattle.std.specs.List.{list_any}
+use Rattle.std.specs.List.{All, list_any}
 use Rattle.std.specs.Option.{option_map_or}
 use Rattle.command_line.specs.Endings.{Outcomes}
 use Rattle.command_line.specs.Turns.{FileTurn, Ready, Wanted, turn_behind}
 use Rattle.command_line.specs.declared.status.FileKind.TheVariants.{Script as ScriptFile, Second as SecondFile, Bridge as BridgeFile}
 use Rattle.command_line.specs.declared.status.Status.{Status}
 use Rattle.command_line.specs.declared.status.Status.TheVariants.{Done}
+use Rattle.moos_bridged.specs.Fronts.{letters_mailed}
+use Rattle.moos_bridged.specs.LeftOut.{HasCarriedEach, IsCarried}
 use Rattle.moos_post.specs.History.{History}
 use Rattle.moos_report.specs.Report.{report_text}
 use Rattle.moos_report.specs.Setups.{setup_without_helm}
-use Rattle.moos_share.specs.Bridged.{IsShared, names_bridged}
+use Rattle.moos_share.specs.Bridged.{bridge_number, IsShared, names_bridged}
 use Rattle.moos_share.specs.BridgeFiles.{rules_of}
 use Rattle.moos_share.specs.LongNames.{too_long_line}
 use Rattle.moos_share.specs.declared.rule.Rule.{Rule}
@@ -79,13 +81,16 @@ community_report names history = report_text setup_without_helm names history []
 abbrev pub both_reports : ShareTask → History → History → List ℕ
 both_reports task one two = community_report (names_bridged task.first) one ++ community_report (names_bridged task.second) two
 
--- The text is the reports of two histories that are shared as the order asks. They are the two that the text lists: no other two such
+-- The text is the reports of two histories that are shared as the order asks: in the second one the bridge has posted just one pair for
+-- each letter that the first mails to it, in the order of mailing, and none is left out. They are the two that the text lists: no other two such
 -- histories have these reports.
 pub record AreReports (task : ShareTask) (text : List ℕ) : Type 0 where
   pub one : History
   pub two : History
   pub shared : IsShared task.order task.first task.second task.rules one two
   pub printed : text ≡ both_reports task one two
+  pub each : HasCarriedEach task.first task.second task.rules one two
+  pub none_left_out : All (IsCarried (names_bridged task.first) task.rules) (letters_mailed (names_bridged task.first) (bridge_number task.first) one)
   pub listed : (other another : History) → IsShared task.order task.first task.second task.rules other another → text ≡ both_reports task other another
       → (other ≡ one) × (another ≡ two)
 
@@ -96,4 +101,4 @@ IsSharing task status text = ⊥
 
 -- what may come of the job, which writes once both histories are there
 abbrev pub share_outcomes : Outcomes ShareTask
-share_outcomes = record { MayWrite = IsSharing; IsWrittenAsItComes = λ task. ⊥ }
+share_outcomes = record { MayWrite = IsSharing; MayStand = λ task text. ⊥ }

@@ -1,6 +1,6 @@
 -- Which files the job reads, what is to be simulated, and what may be written of it.
 use Rattle.std.specs.Prelude.{◌≡◌, ℕ, Bool, is_some, neg_ℤ, pos, List, [], ◌∷◌, ◌++◌, Option, Some, None, Result, Ok, Err}
-use Rattle.command_line.specs.Endings.{Outcomes}
+use Rattle.command_line.specs.Endings.{Outcomes, Sinking}
 use Rattle.command_line.specs.Turns.{FileTurn, Ready, Wanted, turn_behind}
 use Rattle.command_line.specs.declared.status.FileKind.TheVariants.{Script as ScriptFile, Vehicle as VehicleFile, Contacts as ContactsFile}
 use Rattle.command_line.specs.declared.status.Status.{Status}
@@ -9,10 +9,12 @@ use Rattle.contact_avoid.specs.declared.ranges.Ranges.{Ranges}
 use Rattle.contact_avoid.specs.RangeFiles.{ranges_of}
 use Rattle.helm_core.specs.declared.iteration.Iteration.{Iteration}
 use Rattle.helm_core.specs.Plans.{plan_made}
-use Rattle.helm_core.specs.Worths.{DecidesByWorth}
 use Rattle.moos_jobs.specs.declared.helm_files.HelmFiles.{HelmFiles}
 use Rattle.moos_jobs.specs.HelmFiles.{setup_of, helm_setup_by}
 use Rattle.moos_jobs.specs.Loading.{helm_turn}
+use Rattle.moos_jobs.specs.PrintedFronts.{IsFrontPrinted}
+use Rattle.moos_jobs.specs.Steering.{SteersWell}
+use Rattle.moos_jobs.specs.Telling.{Tells}
 use Rattle.moos_play.specs.Lawful.{HelmSetup, heard_of, helm_number, iterations, names_with}
 use Rattle.moos_post.specs.declared.value.Pair.{Pair}
 use Rattle.moos_post.specs.History.{History}
@@ -109,16 +111,20 @@ pub record IsVoyage (task : Simulation) (text : List ℕ) : Type 0 where
   pub printed : text ≡ voyage_text task history
   pub listed : (other : History) → IsSailed task other → text ≡ voyage_text task other → other ≡ history
   pub ranges : KeepsInRange task.gear.craft
-  pub worth : DecidesByWorth (plan_made task.files.mission task.files.file)
+  pub steers : SteersWell (plan_made task.files.mission task.files.file)
 
 -- the job may write this text and end with this status
 abbrev pub MayReport : Simulation → Status → List ℕ → Type 0
 MayReport task Done text = IsVoyage task text
 MayReport task status text = ⊥
 
+-- the text is what is printed of a front of a history that the simulation may leave, and of the helm's iterations in that
+abbrev pub IsFrontOfVoyage : Simulation → List ℕ → Type 0
+IsFrontOfVoyage task text = IsFrontPrinted (setup_of (Some task.files)) (names_sailed task) (IsSailed task) (iterations_sailed task) text
+
 -- what may come of a simulation, whose report is written as it comes
 abbrev pub simulate_outcomes : Outcomes Simulation
-simulate_outcomes = record { MayWrite = MayReport; IsWrittenAsItComes = λ task. Unit {0} }
+simulate_outcomes = record { MayWrite = MayReport; MayStand = IsFrontOfVoyage }
 
 -- ---- a play of a simulation; this serves `simulate_telling` alone
 
@@ -132,4 +138,8 @@ pub record IsOfSimulation (task : Simulation) (setup : Setup) (gear : Gear) (scr
   pub same_setup : setup ≡ setup_of (Some task.files)
   pub told : (one other : History) → IsSailed task one → IsSailed task other → voyage_text task other ≡ voyage_text task one → other ≡ one
   pub ranges : KeepsInRange task.gear.craft
-  pub worth : DecidesByWorth (plan_made task.files.mission task.files.file)
+  pub steers : SteersWell (plan_made task.files.mission task.files.file)
+
+-- how a play of the simulation is told as it comes
+abbrev pub TellsVoyage : Simulation → Sinking → Status → Type 0
+TellsVoyage task sink status = Tells (IsVoyage task) (IsFrontOfVoyage task) sink status

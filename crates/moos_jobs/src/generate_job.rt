@@ -16,7 +16,7 @@ use crate::counts::IterationCounts;
 use crate::sole_history::sole_history_law;
 use crate::summary::summary;
 use command_line::{Status, written};
-use helm_core::Helm;
+use helm_core::{Helm, names_law, worth_law};
 use mission_maker::{make_behaviors, make_mission, make_script};
 use moos_db::Db;
 use moos_io::{Gate, Sink};
@@ -47,6 +47,8 @@ pub fn generate<R: Threads + Wait + Sync, K: Sink, G: Gate>(
     match play_generated(rt, alloc, number, gate) {
         Ok(counted) => {
             sole_history_law();
+            worth_law();
+            names_law();
             written(
                 Status::Done,
                 summary(number, &counted.db, &counted.iterations, out),

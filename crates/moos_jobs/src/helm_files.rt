@@ -13,7 +13,7 @@ use bhv_reader::{BhvFile, read_behaviors};
 use command_line::{FileKind, Status, load, refused, unloaded};
 use helm_core::Helm;
 use mission_reader::Mission;
-use moos_io::Folder;
+use moos_files::Folder;
 use moos_play::HelmRun;
 use moos_post::{List, NoMemory, Txt};
 use moos_report::Setup;
@@ -45,12 +45,11 @@ pub fn load_helm<F: Folder>(
 ) -> Result<HelmFiles, Status>
     requires valid { IsValid script.now }
     ensures valid { IfOk result AreValidFiles }
-    ensures loaded { IfOk result (WereLoaded (F.told folder.old) script.now name.now) }
+    ensures loaded { IfOk result (WereLoaded (F.told folder.old) (F.heard folder.old) (F.heard folder.new) script.now name.now) }
     // Whatever the job's sink took before.
     ensures ends { IfErr result (λ status. (taken : Option (List ℕ)) (faults : Faring) → EndsFrom nothing_written
-        (surroundings (F.told folder.old) (F.sure folder.old) (F.faults folder.old) (F.faults folder.new) (sinking taken taken faults faults))
+        (surroundings (F.told folder.old) (F.sure folder.old) (F.heard folder.old) (F.heard folder.new) (sinking taken taken faults faults))
         (helm_turn helm_alone script.now name.now) [] status) }
-    ensures later { F.faults folder.old ≤ F.faults folder.new }
     ensures same { (F.told folder.new ≡ F.told folder.old) × (F.sure folder.new ≡ F.sure folder.old) }
 {
     let first = match load(alloc, folder, name.bytes()) {

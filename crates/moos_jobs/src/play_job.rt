@@ -11,8 +11,9 @@ ghost use Rattle.script_reader.specs.Validity.{IsValid};
 use crate::helm_files::{FittedHelm, HelmFiles, fit_helm, load_helm};
 use crate::play_telling::play_rounds;
 use command_line::{FileKind, Status, load, refused, unloaded};
-use helm_core::{plan_law, worth_law};
-use moos_io::{Folder, Gate, Sink};
+use helm_core::{names_law, plan_law, worth_law};
+use moos_files::Folder;
+use moos_io::{Gate, Sink};
 use moos_play::Order;
 use moos_post::Txt;
 use moos_report::{report_law, setup_without_helm};
@@ -34,7 +35,7 @@ pub fn play_files<R: Threads + Wait + Sync, F: Folder, K: Sink, G: Gate>(
     gate: &G,
 ) -> Status
     requires few { (1 ≤ workers) × (workers ≤ 16) }
-    ensures ends { EndsFrom outcomes (surroundings (F.told folder.old) (F.sure folder.old) (F.faults folder.old) (F.faults folder.new)
+    ensures ends { EndsFrom outcomes (surroundings (F.told folder.old) (F.sure folder.old) (F.heard folder.old) (F.heard folder.new)
         (sinking (K.taken out.old) (K.taken out.new) (K.faults out.old) (K.faults out.new))) (turn_of (Play name.now mission.now order workers)) [] result }
     ensures same { (F.told folder.new ≡ F.told folder.old) × (F.sure folder.new ≡ F.sure folder.old) }
 {
@@ -70,7 +71,7 @@ fn play_mission<R: Threads + Wait + Sync, F: Folder, K: Sink, G: Gate>(
     requires valid { IsValid script.now }
     // Whichever job the script was loaded for, by where it is with its files.
     ensures ends { (turn : List (List ℕ) → FileTurn Task) (front : List (List ℕ)) → ((files : List (List ℕ)) → turn (front ++ files) ≡ helm_turn (helm_played order script.now) script.now name.now files)
-        → EndsFrom outcomes (surroundings (F.told folder.old) (F.sure folder.old) (F.faults folder.old) (F.faults folder.new)
+        → EndsFrom outcomes (surroundings (F.told folder.old) (F.sure folder.old) (F.heard folder.old) (F.heard folder.new)
         (sinking (K.taken out.old) (K.taken out.new) (K.faults out.old) (K.faults out.new))) turn front result }
     ensures same { (F.told folder.new ≡ F.told folder.old) × (F.sure folder.new ≡ F.sure folder.old) }
 {
@@ -103,6 +104,7 @@ fn play_helm<R: Threads + Wait + Sync, K: Sink, G: Gate>(
     let FittedHelm { run, setup } = fitted;
     plan_law();
     worth_law();
+    names_law();
     report_law();
     play_rounds(
         rt,

@@ -4,15 +4,19 @@ ghost use Rattle.command_line.specs.Endings.{EndsFrom, Surroundings, sinking, su
 ghost use Rattle.command_line.specs.Jobs.{HasFewWorkers};
 ghost use Rattle.command_line.specs.declared.job.Job.TheVariants.{Check, Solve};
 ghost use Rattle.moos_jobs.specs.Jobs.{outcomes, turn_of};
-ghost use Rattle.moos_jobs.specs.Run.{Completes, Declines, EndsWith, Refuses, Succeeds};
+ghost use Rattle.moos_jobs.specs.Run.{Answers, Completes, Declines, EndsWith, Misses, Objects, Refuses, Rejects, Succeeds};
 
 use crate::generate_job::generate;
 use crate::play_job::play_files;
 use crate::share_job::share_files;
 use crate::simulate_job::simulate;
 use command_line::{FileKind, Job, Status, Words, job_named, load, refused, unloaded, written};
-use ivp_cert::{accepts, decide, print_decision_by_workers, read_decision, read_problem};
-use moos_io::{Folder, Gate, Sink, put_all};
+use ivp_cert::{
+    accepts, certificate_law, decide, print_decision_by_workers, read_decision, read_problem,
+};
+use ivp_problem::problem_law;
+use moos_files::Folder;
+use moos_io::{Gate, Sink, put_all};
 use moos_post::Txt;
 use std::alloc::Global;
 use std::sync::Wait;
@@ -30,7 +34,7 @@ pub fn run<R: Threads + Wait + Sync, F: Folder, K: Sink, G: Gate>(
     gate: &G,
 ) -> Status
     // What each status says of the words, the files, and what was written.
-    ensures ran { EndsWith words.now (surroundings (F.told folder.old) (F.sure folder.old) (F.faults folder.old) (F.faults folder.new)
+    ensures ran { EndsWith words.now (surroundings (F.told folder.old) (F.sure folder.old) (F.heard folder.old) (F.heard folder.new)
         (sinking (K.taken out.old) (K.taken out.new) (K.faults out.old) (K.faults out.new))) result }
 
     // The folder tells the same as before, and is sure of the same names.
@@ -50,7 +54,11 @@ pub fn run_law()
     ensures completes { (words : List (List ℕ)) (run : Surroundings) (status : Status) → EndsWith words run status → Completes words run status }
     ensures refuses { (words : List (List ℕ)) (run : Surroundings) (status : Status) → EndsWith words run status → Refuses words run status }
     ensures succeeds { (words : List (List ℕ)) (run : Surroundings) (status : Status) → EndsWith words run status → Succeeds words run status }
+    ensures answers { (words : List (List ℕ)) (run : Surroundings) (status : Status) → EndsWith words run status → Answers words run status }
+    ensures objects { (words : List (List ℕ)) (run : Surroundings) (status : Status) → EndsWith words run status → Objects words run status }
     ensures declines { (words : List (List ℕ)) (run : Surroundings) (status : Status) → EndsWith words run status → Declines words run status }
+    ensures misses { (words : List (List ℕ)) (run : Surroundings) (status : Status) → EndsWith words run status → Misses words run status }
+    ensures rejects { (words : List (List ℕ)) (run : Surroundings) (status : Status) → EndsWith words run status → Rejects words status }
 {}
 
 // Does the job from its first file on.
@@ -63,7 +71,7 @@ fn do_job<R: Threads + Wait + Sync, F: Folder, K: Sink, G: Gate>(
     gate: &G,
 ) -> Status
     requires few { HasFewWorkers job.now }
-    ensures ends { EndsFrom outcomes (surroundings (F.told folder.old) (F.sure folder.old) (F.faults folder.old) (F.faults folder.new)
+    ensures ends { EndsFrom outcomes (surroundings (F.told folder.old) (F.sure folder.old) (F.heard folder.old) (F.heard folder.new)
         (sinking (K.taken out.old) (K.taken out.new) (K.faults out.old) (K.faults out.new))) (turn_of job.now) [] result }
     ensures same { (F.told folder.new ≡ F.told folder.old) × (F.sure folder.new ≡ F.sure folder.old) }
 {
@@ -110,7 +118,7 @@ fn solve_problem<R: Threads + Wait + Sync, F: Folder, K: Sink, G: Gate>(
     gate: &G,
 ) -> Status
     requires few { (1 ≤ workers) × (workers ≤ 16) }
-    ensures ends { EndsFrom outcomes (surroundings (F.told folder.old) (F.sure folder.old) (F.faults folder.old) (F.faults folder.new)
+    ensures ends { EndsFrom outcomes (surroundings (F.told folder.old) (F.sure folder.old) (F.heard folder.old) (F.heard folder.new)
         (sinking (K.taken out.old) (K.taken out.new) (K.faults out.old) (K.faults out.new))) (turn_of (Solve name.now workers)) [] result }
     ensures same { (F.told folder.new ≡ F.told folder.old) × (F.sure folder.new ≡ F.sure folder.old) }
 {
@@ -122,6 +130,8 @@ fn solve_problem<R: Threads + Wait + Sync, F: Folder, K: Sink, G: Gate>(
         Ok(problem) => problem,
         Err(fault) => return refused(FileKind::Problem, fault),
     };
+    certificate_law();
+    problem_law(&problem);
     match decide(rt, alloc, problem, workers, gate) {
         Ok(decision) => written(
             Status::Done,
@@ -138,7 +148,7 @@ fn check_decision<F: Folder, K: Sink>(
     folder: &mut F,
     out: &mut K,
 ) -> Status
-    ensures ends { EndsFrom outcomes (surroundings (F.told folder.old) (F.sure folder.old) (F.faults folder.old) (F.faults folder.new)
+    ensures ends { EndsFrom outcomes (surroundings (F.told folder.old) (F.sure folder.old) (F.heard folder.old) (F.heard folder.new)
         (sinking (K.taken out.old) (K.taken out.new) (K.faults out.old) (K.faults out.new))) (turn_of (Check name.now)) [] result }
     ensures same { (F.told folder.new ≡ F.told folder.old) × (F.sure folder.new ≡ F.sure folder.old) }
 {

@@ -1,16 +1,18 @@
 // The job from its first file to what is written.
-ghost use Rattle.std.specs.Prelude.{◌≡◌, ◌++◌, ℕ, [], List};
+ghost use Rattle.std.specs.Prelude.{◌≡◌, ◌++◌, ℕ, [], List, None};
 ghost use Rattle.std.specs.List.{All};
 ghost use Rattle.command_line.specs.Endings.{Ended, EndsFrom, sinking, surroundings};
 ghost use Rattle.command_line.specs.Turns.{FileTurn, Ready};
 ghost use Rattle.moos_jobs.specs.Sharing.{bridge_turn, IsWithoutBridge, second_turn, share_outcomes, share_turn, ShareTask};
+ghost use Rattle.moos_share.specs.LongNames.{too_long_line};
 ghost use Rattle.moos_share.specs.Validity.{IsRule};
 
 use crate::share_reading::{read_community, read_fitting};
 use crate::share_reporting::report_both;
 use command_line::{FileKind, Status, load, refused, unloaded, written};
-use moos_bridged::{entries_law, share};
-use moos_io::{Folder, Gate, Sink};
+use moos_bridged::{bridged_law, entries_law, share};
+use moos_files::Folder;
+use moos_io::{Gate, Sink};
 use moos_post::Txt;
 use moos_report::reports_law;
 use moos_share::Rules;
@@ -32,7 +34,7 @@ pub fn share_files<R: Threads + Wait + Sync, F: Folder, K: Sink, G: Gate>(
     out: &mut K,
     gate: &G,
 ) -> Status
-    ensures ends { EndsFrom share_outcomes (surroundings (F.told folder.old) (F.sure folder.old) (F.faults folder.old) (F.faults folder.new)
+    ensures ends { EndsFrom share_outcomes (surroundings (F.told folder.old) (F.sure folder.old) (F.heard folder.old) (F.heard folder.new)
         (sinking (K.taken out.old) (K.taken out.new) (K.faults out.old) (K.faults out.new))) (share_turn first.now second.now bridge.now order) [] result }
     ensures same { (F.told folder.new ≡ F.told folder.old) × (F.sure folder.new ≡ F.sure folder.old) }
 {
@@ -61,7 +63,7 @@ fn share_second<R: Threads + Wait + Sync, F: Folder, K: Sink, G: Gate>(
     requires first { IsWithoutBridge first.now }
     // Whichever job the first script was loaded for, by where it is with its files.
     ensures ends { (turn : List (List ℕ) → FileTurn ShareTask) (front : List (List ℕ)) → ((files : List (List ℕ)) → turn (front ++ files) ≡ second_turn order first.now name.now bridge.now files)
-        → EndsFrom share_outcomes (surroundings (F.told folder.old) (F.sure folder.old) (F.faults folder.old) (F.faults folder.new)
+        → EndsFrom share_outcomes (surroundings (F.told folder.old) (F.sure folder.old) (F.heard folder.old) (F.heard folder.new)
         (sinking (K.taken out.old) (K.taken out.new) (K.faults out.old) (K.faults out.new))) turn front result }
     ensures same { (F.told folder.new ≡ F.told folder.old) × (F.sure folder.new ≡ F.sure folder.old) }
 {
@@ -91,7 +93,7 @@ fn share_bridge<R: Threads + Wait + Sync, F: Folder, K: Sink, G: Gate>(
     requires second { IsWithoutBridge second.now }
     // Whichever job the scripts were loaded for, by where it is with its files.
     ensures ends { (turn : List (List ℕ) → FileTurn ShareTask) (front : List (List ℕ)) → ((files : List (List ℕ)) → turn (front ++ files) ≡ bridge_turn order first.now second.now name.now files)
-        → EndsFrom share_outcomes (surroundings (F.told folder.old) (F.sure folder.old) (F.faults folder.old) (F.faults folder.new)
+        → EndsFrom share_outcomes (surroundings (F.told folder.old) (F.sure folder.old) (F.heard folder.old) (F.heard folder.new)
         (sinking (K.taken out.old) (K.taken out.new) (K.faults out.old) (K.faults out.new))) turn front result }
     ensures same { (F.told folder.new ≡ F.told folder.old) × (F.sure folder.new ≡ F.sure folder.old) }
 {
@@ -119,9 +121,11 @@ fn share_scripts<R: Threads + Wait + Sync, K: Sink, G: Gate>(
     requires first { IsWithoutBridge first.now }
     requires second { IsWithoutBridge second.now }
     requires rules { All IsRule rules }
+    requires fitting { too_long_line rules first.now.lines ≡ None }
     ensures { Ended share_outcomes (Ready (record { order = order; first = first.now; second = second.now; rules = rules }))
         (sinking (K.taken out.old) (K.taken out.new) (K.faults out.old) (K.faults out.new)) result }
 {
+    bridged_law();
     entries_law();
     reports_law();
     match share(rt, alloc, first, second, rules, order, gate) {

@@ -1,7 +1,8 @@
 // The files of the job: scripts without a client of the bridge's name, and rules that make no name too long.
-ghost use Rattle.std.specs.Prelude.{◌≡◌, ◌∷◌, ◌<◌, ◌^◌, [], codes, length, IfErr, IfOk, Ok};
+ghost use Rattle.std.specs.Prelude.{◌≡◌, ◌∷◌, ◌<◌, ◌^◌, [], codes, length, IfErr, IfOk, None, Ok};
 ghost use Rattle.std.specs.List.{All, list_any};
 ghost use Rattle.moos_jobs.specs.Sharing.{community_of, fitting_of, IsWithoutBridge};
+ghost use Rattle.moos_share.specs.LongNames.{too_long_line};
 ghost use Rattle.moos_share.specs.Validity.{IsRule};
 ghost use Rattle.moos_text.specs.Refusals.{IsFirst};
 ghost use Rattle.script_reader.specs.Named.{has_name};
@@ -62,6 +63,7 @@ pub(crate) fn read_fitting(alloc: Global, first: &Script, bytes: &[u8]) -> Resul
     ensures read { IfOk result (λ rules. fitting_of first.now bytes.now ≡ Ok rules) }
     ensures refused { IfErr result (λ fault. IsFirst fault (fitting_of first.now bytes.now)) }
     ensures kept { IfOk result (All IsRule) }
+    ensures fits { IfOk result (λ rules. too_long_line rules first.now.lines ≡ None) }
 {
     let rules = read_bridge(alloc, bytes)?;
     match too_long(&rules, first) {

@@ -14,8 +14,9 @@ use crate::simulate_reading::read_simulated;
 use crate::simulate_telling::sail;
 use command_line::{FileKind, Status, load, refused, unloaded};
 use contact_avoid::Ranges;
-use helm_core::{plan_law, worth_law};
-use moos_io::{Folder, Gate, Sink};
+use helm_core::{names_law, plan_law, worth_law};
+use moos_files::Folder;
+use moos_io::{Gate, Sink};
 use moos_post::Txt;
 use moos_report::report_law;
 use moos_simulate::Gear;
@@ -41,7 +42,7 @@ pub fn simulate<R: Threads + Wait + Sync, F: Folder, K: Sink, G: Gate>(
     gate: &G,
 ) -> Status
     requires few { (1 ≤ workers) × (workers ≤ 16) }
-    ensures ends { EndsFrom simulate_outcomes (surroundings (F.told folder.old) (F.sure folder.old) (F.faults folder.old) (F.faults folder.new)
+    ensures ends { EndsFrom simulate_outcomes (surroundings (F.told folder.old) (F.sure folder.old) (F.heard folder.old) (F.heard folder.new)
         (sinking (K.taken out.old) (K.taken out.new) (K.faults out.old) (K.faults out.new))) (simulate_turn script.now mission.now vehicle.now contacts.now) [] result }
     ensures same { (F.told folder.new ≡ F.told folder.old) × (F.sure folder.new ≡ F.sure folder.old) }
 {
@@ -76,7 +77,7 @@ fn with_helm<R: Threads + Wait + Sync, F: Folder, K: Sink, G: Gate>(
     // Wherever the job was before, by where it is with its files.
     ensures ends { (turn : List (List ℕ) → FileTurn Simulation) (front : List (List ℕ))
         → ((files : List (List ℕ)) → turn (front ++ files) ≡ helm_turn (vehicle_turn script.now vehicle.now contacts.now) script.now name.now files)
-        → EndsFrom simulate_outcomes (surroundings (F.told folder.old) (F.sure folder.old) (F.faults folder.old) (F.faults folder.new)
+        → EndsFrom simulate_outcomes (surroundings (F.told folder.old) (F.sure folder.old) (F.heard folder.old) (F.heard folder.new)
         (sinking (K.taken out.old) (K.taken out.new) (K.faults out.old) (K.faults out.new))) turn front result }
     ensures same { (F.told folder.new ≡ F.told folder.old) × (F.sure folder.new ≡ F.sure folder.old) }
 {
@@ -108,7 +109,7 @@ fn with_vehicle<R: Threads + Wait + Sync, F: Folder, K: Sink, G: Gate>(
     // Wherever the job was before, by where it is with its files.
     ensures ends { (turn : List (List ℕ) → FileTurn Simulation) (front : List (List ℕ))
         → ((more : List (List ℕ)) → turn (front ++ more) ≡ vehicle_turn script.now name.now contacts.now files more)
-        → EndsFrom simulate_outcomes (surroundings (F.told folder.old) (F.sure folder.old) (F.faults folder.old) (F.faults folder.new)
+        → EndsFrom simulate_outcomes (surroundings (F.told folder.old) (F.sure folder.old) (F.heard folder.old) (F.heard folder.new)
         (sinking (K.taken out.old) (K.taken out.new) (K.faults out.old) (K.faults out.new))) turn front result }
     ensures same { (F.told folder.new ≡ F.told folder.old) × (F.sure folder.new ≡ F.sure folder.old) }
 {
@@ -144,7 +145,7 @@ fn with_contacts<R: Threads + Wait + Sync, F: Folder, K: Sink, G: Gate>(
     // Wherever the job was before, by where it is with its files.
     ensures ends { (turn : List (List ℕ) → FileTurn Simulation) (front : List (List ℕ))
         → ((more : List (List ℕ)) → turn (front ++ more) ≡ contacts_turn script.now files contacts.now craft more)
-        → EndsFrom simulate_outcomes (surroundings (F.told folder.old) (F.sure folder.old) (F.faults folder.old) (F.faults folder.new)
+        → EndsFrom simulate_outcomes (surroundings (F.told folder.old) (F.sure folder.old) (F.heard folder.old) (F.heard folder.new)
         (sinking (K.taken out.old) (K.taken out.new) (K.faults out.old) (K.faults out.new))) turn front result }
     ensures same { (F.told folder.new ≡ F.told folder.old) × (F.sure folder.new ≡ F.sure folder.old) }
 {
@@ -194,6 +195,7 @@ fn sail_helm<R: Threads + Wait + Sync, K: Sink, G: Gate>(
     let FittedHelm { run, setup } = fitted;
     plan_law();
     worth_law();
+    names_law();
     posts_law();
     report_law();
     contacts_law();

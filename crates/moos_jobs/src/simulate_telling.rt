@@ -1,10 +1,10 @@
 // A play beside a vehicle whose report is written as it comes: how it begins before the first round, and what each round brings before
 // the next.
-ghost use Rattle.std.specs.Prelude.{◌≡◌, ◌+◌, ◌++◌, ◌^◌, ◌<◌, ◌≤◌, [], length, IfErr, IfNone, IfOk, IfSome, OnOk, Option, List, Some, ℕ};
+ghost use Rattle.std.specs.Prelude.{◌≡◌, ◌+◌, ◌++◌, ◌^◌, ◌<◌, ◌≤◌, ◌⊎◌, [], true, length, IfErr, IfNone, IfOk, IfSome, OnErr, OnOk, Option, List, Some, ℕ};
 ghost use Rattle.command_line.specs.Endings.{sinking};
-ghost use Rattle.moos_io.specs.Faults.{Faring, FaresOn};
-ghost use Rattle.moos_jobs.specs.Simulating.{IsOfSimulation, IsVoyage, Simulation};
-ghost use Rattle.moos_jobs.specs.Telling.{IsToldSoFar, Tells};
+ghost use Rattle.moos_io.specs.BufferedWriting.{IsClear};
+ghost use Rattle.moos_jobs.specs.Simulating.{IsOfSimulation, Simulation, TellsVoyage};
+ghost use Rattle.moos_jobs.specs.Telling.{IsToldSoFar};
 ghost use Rattle.moos_play.specs.Lawful.{MayStart, names_with, helm_setup_with};
 ghost use Rattle.moos_play.specs.Plays.{clients_in, GoesOnWith, helm_in, history_in, iterations_made, left_in, script_played};
 ghost use Rattle.moos_report.specs.Lines.{KeepsLines};
@@ -14,7 +14,7 @@ ghost use Rattle.script_reader.specs.Validity.{IsValid};
 
 use crate::telling::{tell_end, tell_opening, tell_part};
 use command_line::{Status, written};
-use moos_io::{Buffer, Gate, Sink};
+use moos_io::{BufferedWriter, Gate, Sink};
 use moos_play::{HelmRun, Order, Play};
 use moos_post::NoMemory;
 use moos_report::{KeptText, Setup, parts_law};
@@ -43,7 +43,7 @@ pub fn sail<R: Threads + Wait + Sync, K: Sink, G: Gate>(
     requires few { (1 ≤ workers) × (workers ≤ 16) }
     // Whichever simulation this is.
     ensures { (task : Simulation) → IsOfSimulation task setup.now gear script.now (Some (helm_setup_with script.now helm)) (names_with script.now (Some helm) ++ gear_names gear)
-        → Tells (IsVoyage task) (sinking (K.taken out.old) (K.taken out.new) (K.faults out.old) (K.faults out.new)) result }
+        → TellsVoyage task (sinking (K.taken out.old) (K.taken out.new) (K.faults out.old) (K.faults out.new)) result }
 {
     let period = helm.period;
     let pid_client = script.names.len() as u32 + 1;
@@ -92,7 +92,7 @@ fn launch<R: Threads + Wait + Sync, K: Sink, G: Gate>(
     requires launch { MayLaunch gear period pid_client play.old }
     requires few { (1 ≤ workers) × (workers ≤ 16) }
     ensures { (task : Simulation) → IsOfSimulation task setup.now gear (script_played play.old) (helm_in play.old) (clients_in play.old)
-        → Tells (IsVoyage task) (sinking (K.taken out.old) (K.taken out.new) (K.faults out.old) (K.faults out.new)) result }
+        → TellsVoyage task (sinking (K.taken out.old) (K.taken out.new) (K.faults out.old) (K.faults out.new)) result }
 {
     match Vehicle::launch(rt, alloc, play, gear, period, pid_client) {
         Ok(mut vehicle) => tell(rt, alloc, play, &mut vehicle, setup, workers, out, gate),
@@ -115,7 +115,33 @@ fn tell<R: Threads + Wait + Sync, K: Sink, G: Gate>(
     requires begun { iterations_made play.old ≡ [] }
     requires few { (1 ≤ workers) × (workers ≤ 16) }
     ensures { (task : Simulation) → IsOfSimulation task setup.now vehicle.old.gear (script_played play.old) (helm_in play.old) (clients_in play.old)
-        → Tells (IsVoyage task) (sinking (K.taken out.old) (K.taken out.new) (K.faults out.old) (K.faults out.new)) result }
+        → TellsVoyage task (sinking (K.taken out.old) (K.taken out.new) (K.faults out.old) (K.faults out.new)) result }
+{
+    let mut writer = BufferedWriter::new(out);
+    let status = tell_through(rt, alloc, play, vehicle, setup, workers, &mut writer, gate);
+    writer.close();
+    status
+}
+
+// The same through a writer.
+fn tell_through<R: Threads + Wait + Sync, K: Sink, G: Gate>(
+    rt: &R,
+    alloc: Global,
+    play: &mut Play,
+    vehicle: &mut Vehicle,
+    setup: &Setup,
+    workers: u32,
+    out: &mut BufferedWriter<'_, K>,
+    gate: &G,
+) -> Status
+    requires simulating { IsSimulating vehicle.old play.old }
+    requires begun { iterations_made play.old ≡ [] }
+    requires clear { IsClear out.old }
+    requires few { (1 ≤ workers) × (workers ≤ 16) }
+    ensures sink { out.new.out.ghost_name ≡ out.old.out.ghost_name }
+    ensures ended { (out.new.failed ≡ true) ⊎ (out.new.buffer ≡ []) }
+    ensures told { (task : Simulation) → IsOfSimulation task setup.now vehicle.old.gear (script_played play.old) (helm_in play.old) (clients_in play.old)
+        → TellsVoyage task (sinking (K.taken out.old.out.now) (K.taken out.new.out.now) (K.faults out.old.out.now) (K.faults out.new.out.now)) result }
 {
     parts_law();
     vehicle.front_law(play);
@@ -124,21 +150,10 @@ fn tell<R: Threads + Wait + Sync, K: Sink, G: Gate>(
     if let Err(_) = tell_opening(rt, play, setup, &mut kept, out) {
         return Status::WriteFault;
     }
-    let mut buffer = Buffer::new();
     let mut made = 0;
     loop {
         match tell_round(
-            rt,
-            alloc,
-            play,
-            vehicle,
-            setup,
-            made,
-            workers,
-            &mut kept,
-            &mut buffer,
-            out,
-            gate,
+            rt, alloc, play, vehicle, setup, made, workers, &mut kept, out, gate,
         ) {
             Ok(Some(more)) => made += more,
             Ok(None) => return written(Status::Done, tell_end(rt, play, out)),
@@ -148,7 +163,7 @@ fn tell<R: Threads + Wait + Sync, K: Sink, G: Gate>(
 }
 
 // Plays the next round and tells it, after `made` iterations of the helm, and answers how many it made in it.
-// None if no round is left. The buffer is empty before and after, and the lines that are kept are of the play's posts.
+// None if no round is left. The writer is clear before and after, and the lines that are kept are of the play's posts.
 fn tell_round<R: Threads + Wait + Sync, K: Sink, G: Gate>(
     rt: &R,
     alloc: Global,
@@ -158,32 +173,33 @@ fn tell_round<R: Threads + Wait + Sync, K: Sink, G: Gate>(
     made: u64,
     workers: u32,
     kept: &mut KeptText,
-    buffer: &mut Buffer,
-    out: &mut K,
+    out: &mut BufferedWriter<'_, K>,
     gate: &G,
 ) -> Result<Option<u64>, Status>
-    requires empty { buffer.old ≡ [] }
+    requires clear { IsClear out.old }
     requires kept { KeepsLines (clients_in play.old) (history_in play.old) kept.old }
     requires simulating { IsSimulating vehicle.old play.old }
     requires made { made ≡ length (iterations_made play.old) }
     requires few { (1 ≤ workers) × (workers ≤ 16) }
-    ensures empty { OnOk result (buffer.new ≡ []) }
+    ensures sink { out.new.out.ghost_name ≡ out.old.out.ghost_name }
+    ensures clear { OnOk result (IsClear out.new) }
+    ensures ended { OnErr result ((out.new.failed ≡ true) ⊎ (out.new.buffer ≡ [])) }
     ensures kept { OnOk result (KeepsLines (clients_in play.new) (history_in play.new) kept.new) }
     ensures simulating { OnOk result (IsSimulating vehicle.new play.new) }
     ensures gear { OnOk result (vehicle.new.gear ≡ vehicle.old.gear) }
     ensures same { OnOk result (GoesOnWith play.old play.new) }
-    ensures later { FaresOn (K.faults out.old) (K.faults out.new) }
+    ensures fared { OnOk result (K.faults out.new.out.now ≡ K.faults out.old.out.now) }
     ensures made { IfOk result (λ more. IfSome more (λ more. length (iterations_made play.new) ≡ made + more)) }
     ensures few { IfOk result (λ more. IfSome more (λ more. made + more < 2 ^ 64)) }
     ensures less { IfOk result (λ more. IfSome more (λ _. left_in play.new < left_in play.old)) }
     // Whatever was told before.
     ensures told { IfOk result (λ more. IfSome more (λ _. (before : Option (List ℕ))
-        → IsToldSoFar setup.now before (K.taken out.old) play.old → IsToldSoFar setup.now before (K.taken out.new) play.new)) }
-    ensures over { IfOk result (λ more. IfNone more (IsSailedOut vehicle.old.gear play.new × (play.new ≡ play.old) × (K.taken out.new ≡ K.taken out.old))) }
-    ensures stopped { IfErr result (λ status. (task : Simulation) (before : Option (List ℕ)) (faults : Faring)
+        → IsToldSoFar setup.now before (K.taken out.old.out.now) play.old → IsToldSoFar setup.now before (K.taken out.new.out.now) play.new)) }
+    ensures over { IfOk result (λ more. IfNone more (IsSailedOut vehicle.old.gear play.new × (play.new ≡ play.old) × (K.taken out.new.out.now ≡ K.taken out.old.out.now))) }
+    ensures stopped { IfErr result (λ status. (task : Simulation) (before : Option (List ℕ))
         → IsOfSimulation task setup.now vehicle.old.gear (script_played play.old) (helm_in play.old) (clients_in play.old)
-        → FaresOn faults (K.faults out.old) → IsToldSoFar setup.now before (K.taken out.old) play.old
-        → Tells (IsVoyage task) (sinking before (K.taken out.new) faults (K.faults out.new)) status) }
+        → IsToldSoFar setup.now before (K.taken out.old.out.now) play.old
+        → TellsVoyage task (sinking before (K.taken out.new.out.now) (K.faults out.old.out.now) (K.faults out.new.out.now)) status) }
 {
     parts_law();
     vehicle.front_law(play);
@@ -196,7 +212,7 @@ fn tell_round<R: Threads + Wait + Sync, K: Sink, G: Gate>(
     };
     vehicle.front_law(play);
     play.front_law();
-    if let Err(_) = tell_part(rt, play, setup, &round, made, kept, buffer, out) {
+    if let Err(_) = tell_part(rt, play, setup, &round, made, kept, out) {
         return Err(Status::WriteFault);
     }
     Ok(Some(round.iterations.len() as u64))

@@ -17,6 +17,6 @@ returns g c = λ number is rises.
     let made = c.in_ok-play.ensures in
     let out = c.in_ok-iterations.ensures in
     was_played_out number c.args.script.now survey.files c.in_ok-survey.survey c.count_rounds.new.play c.end-db.result.db.names c.end-db.result.db.history c.in_ok-iterations.iterations
-    is rises survey.mission survey.behaviors survey.plan survey.period (out.same.order ∙ made.order) (out.same.script ∙ made.script) (out.same.helm ∙ made.helm)
+    is rises survey.mission survey.behaviors survey.valid survey.plan survey.period (out.same.order ∙ made.order) (out.same.script ∙ made.script) (out.same.helm ∙ made.helm)
     (out.same.names ∙ names_alone c.args.script.now c.in_ok-survey.survey c.new-further.result (clients_in c.in_ok-play.play) c.new-further.ensures made.names)
     out.over c.end-db.ensures.names c.end-db.ensures.history out.counted

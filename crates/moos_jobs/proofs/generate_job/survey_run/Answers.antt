@@ -9,5 +9,6 @@ returns c = record {
   behaviors = c.in_ok-file.ensures.file;
   plan = c.in_ok-helm.ensures.plan;
   period = refl;
+  valid = record { mission = c.in_ok-mission.ensures.valid; file = c.in_ok-file.ensures.valid; served = c.in_ok-file.ensures.served };
   start = record { stands = c.in_ok-helm.ensures.stands; period = c.in_ok-mission.ensures.valid.ticks };
 }

@@ -8,8 +8,8 @@ use Rattle.moos_jobs.proofs.play_job.play_mission.Goals as goal
 pub returns-in-Ok-clause-ends : goal.returns-in-Ok-clause-ends
 returns-in-Ok-clause-ends g c = λ turn front turns.
     ends_behind outcomes (helm_played c.args.order c.args.script.now) c.args.script.now c.args.name.now turn front turns (surroundings _ _ _ _ _) (surroundings _ _ _ _ _)
-    (record { told = c.load_helm.ensures.same.0; sure = c.load_helm.ensures.same.1; sink = refl; before = c.load_helm.ensures.later; after = refl })
-    c.in-Ok.files c.in-Ok.ensures.loaded c.play_helm.result c.play_helm.ensures
+    (record { told = c.load_helm.ensures.same.0; sure = c.load_helm.ensures.same.1; sink = refl; after = refl })
+    c.in-Ok.files c.in-Ok.ensures.loaded c.play_helm.result refl c.play_helm.ensures
 
 pub returns-in-Err-clause-ends : goal.returns-in-Err-clause-ends
 returns-in-Err-clause-ends g c = λ turn front turns.

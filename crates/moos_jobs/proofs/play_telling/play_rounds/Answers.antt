@@ -2,8 +2,7 @@
 use Rattle.std.proofs.Common.{◌∙◌, ◌++◌, ap, append-nil, inl, refl, sym}
 use Rattle.moos_play.specs.Lawful.{names_with, helm_setup_with}
 use Rattle.command_line.specs.Endings.{sinking}
-use Rattle.moos_jobs.specs.PlayTelling.{IsOfLawful}
-use Rattle.moos_jobs.specs.Telling.{Tells}
+use Rattle.moos_jobs.specs.PlayTelling.{TellsLawful}
 use Rattle.moos_jobs.proofs.PlayRounds.{named_with, run_as}
 use Rattle.moos_jobs.proofs.play_telling.play_rounds.Goals as goal
 
@@ -17,7 +16,7 @@ pub returns-in-Ok : goal.returns-in-Ok
 returns-in-Ok g c =
     let made = c.in-Ok.ensures in
     let sink = sinking (g.K.Sink.taken c.args.out.now) (g.K.Sink.taken c.tell.new.out) (g.K.Sink.faults c.args.out.now) (g.K.Sink.faults c.tell.new.out) in
-    run_as (λ order script helm. Tells (IsOfLawful order script helm c.args.setup.now) sink c.tell.result) made.order made.script made.helm c.tell.ensures
+    run_as (λ order script helm. TellsLawful order script helm c.args.setup.now sink c.tell.result) made.order made.script made.helm c.tell.ensures
 
 pub returns-in-Err : goal.returns-in-Err
 returns-in-Err g c = inl (record { taken = refl; faults = refl })

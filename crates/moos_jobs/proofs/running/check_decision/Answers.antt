@@ -16,14 +16,14 @@ use Rattle.moos_jobs.proofs.running.check_decision.Goals as goal
 pub returns-in-Err-clause-ends : goal.returns-in-Err-clause-ends
 returns-in-Err-clause-ends g c =
     load_ends outcomes _ _ _ _ _ _ (turn_of (Check c.args.name.now)) [] Decision c.args.name.now _ c.in-Err.fault c.unloaded.result refl c.bytes.ensures.value
-    c.in-Err.ensures.rose c.in-Err.ensures.unsure c.unloaded.ensures.failed c.unloaded.ensures.memory
+    c.in-Err.ensures.failed c.in-Err.ensures.rose c.in-Err.ensures.unsure c.unloaded.ensures.failed c.unloaded.ensures.memory
 
 pub returns-in-Err-read_decision-clause-ends : goal.returns-in-Err-read_decision-clause-ends
 returns-in-Err-read_decision-clause-ends g c =
     let bytes = c.in-Ok.bytes.items in
     let next : DecisionRead → FileTurn Task = λ decision. Ready (Checking decision) in
     let first : IsFirst c.in-Err-read_decision.fault (decision_of bytes) = subst (λ bytes. IsFirst c.in-Err-read_decision.fault (decision_of bytes)) c.deref.ensures.value c.in-Err-read_decision.ensures.refused in
-    last_ends outcomes _ _ _ _ _ (turn_of (Check c.args.name.now)) [] Decision c.args.name.now _ bytes _ c.refused.result refl c.bytes.ensures.value c.in-Ok.ensures.content c.in-Ok.ensures.later refl
+    last_ends outcomes _ _ _ _ _ (turn_of (Check c.args.name.now)) [] Decision c.args.name.now _ bytes _ c.refused.result refl c.bytes.ensures.value c.in-Ok.ensures.content c.in-Ok.ensures.heard refl
     (refusal_ends outcomes next Decision _ c.in-Err-read_decision.fault c.refused.result _ _ first c.refused.ensures)
 
 pub returns-then-accepts-clause-ends : goal.returns-then-accepts-clause-ends
@@ -31,18 +31,19 @@ returns-then-accepts-clause-ends g c =
     let bytes = c.in-Ok.bytes.items in
     let next : DecisionRead → FileTurn Task = λ decision. Ready (Checking decision) in
     let read : decision_of bytes ≡ Ok c.in-Ok-read_decision.decision = ap decision_of (sym c.deref.ensures.value) ∙ c.in-Ok-read_decision.ensures.read in
-    last_ends outcomes _ _ _ _ _ (turn_of (Check c.args.name.now)) [] Decision c.args.name.now _ bytes _ c.written.result refl c.bytes.ensures.value c.in-Ok.ensures.content c.in-Ok.ensures.later
+    last_ends outcomes _ _ _ _ _ (turn_of (Check c.args.name.now)) [] Decision c.args.name.now _ bytes _ c.written.result refl c.bytes.ensures.value c.in-Ok.ensures.content c.in-Ok.ensures.heard
     (ap (turn_behind Decision next) read)
-    (put_ends outcomes _ (Checking c.in-Ok-read_decision.decision) _ Done c.written.result _ c.put_all.result (λ all. all) refl (c.accepts.ensures.accepts.0 c.if-accepts.true, refl)
-    c.put_all.ensures.ok c.put_all.ensures.front c.put_all.ensures.rose c.written.ensures.all c.written.ensures.fault)
+    (put_ends outcomes _ (Checking c.in-Ok-read_decision.decision) _ Done c.written.result _ c.put_all.result (λ all. all) refl
+    (record { accepted = c.accepts.ensures.accepts.0 c.if-accepts.true; best = c.accepts.ensures.best c.if-accepts.true }, refl)
+    c.put_all.ensures.ok c.put_all.ensures.front c.put_all.ensures.fares c.put_all.ensures.rose c.written.ensures.all c.written.ensures.fault)
 
 pub returns-clause-ends : goal.returns-clause-ends
 returns-clause-ends g c =
     let bytes = c.in-Ok.bytes.items in
     let next : DecisionRead → FileTurn Task = λ decision. Ready (Checking decision) in
     let read : decision_of bytes ≡ Ok c.in-Ok-read_decision.decision = ap decision_of (sym c.deref.ensures.value) ∙ c.in-Ok-read_decision.ensures.read in
-    last_ends outcomes _ _ _ _ _ (turn_of (Check c.args.name.now)) [] Decision c.args.name.now _ bytes _ c.written-else-accepts.result refl c.bytes.ensures.value c.in-Ok.ensures.content c.in-Ok.ensures.later
+    last_ends outcomes _ _ _ _ _ (turn_of (Check c.args.name.now)) [] Decision c.args.name.now _ bytes _ c.written-else-accepts.result refl c.bytes.ensures.value c.in-Ok.ensures.content c.in-Ok.ensures.heard
     (ap (turn_behind Decision next) read)
     (put_ends outcomes _ (Checking c.in-Ok-read_decision.decision) _ CheckNo c.written-else-accepts.result _ c.put_all-else-accepts.result (λ all. all) refl
     (λ accepted. true≢false (sym (c.accepts.ensures.accepts.1 accepted) ∙ c.if-accepts.false), refl)
-    c.put_all-else-accepts.ensures.ok c.put_all-else-accepts.ensures.front c.put_all-else-accepts.ensures.rose c.written-else-accepts.ensures.all c.written-else-accepts.ensures.fault)
+    c.put_all-else-accepts.ensures.ok c.put_all-else-accepts.ensures.front c.put_all-else-accepts.ensures.fares c.put_all-else-accepts.ensures.rose c.written-else-accepts.ensures.all c.written-else-accepts.ensures.fault)

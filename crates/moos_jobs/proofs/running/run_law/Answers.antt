@@ -1,4 +1,4 @@
-use Rattle.moos_jobs.proofs.Endings.{completes, declines, refuses, succeeds}
+use Rattle.moos_jobs.proofs.Endings.{answers, completes, declines, misses, objects, refuses, rejects, succeeds}
 use Rattle.moos_jobs.proofs.running.run_law.Goals as goal
 
 pub returns-clause-completes : goal.returns-clause-completes
@@ -12,3 +12,15 @@ returns-clause-succeeds c = succeeds
 
 pub returns-clause-declines : goal.returns-clause-declines
 returns-clause-declines c = declines
+
+pub returns-clause-answers : goal.returns-clause-answers
+returns-clause-answers c = answers
+
+pub returns-clause-objects : goal.returns-clause-objects
+returns-clause-objects c = objects
+
+pub returns-clause-misses : goal.returns-clause-misses
+returns-clause-misses c = misses
+
+pub returns-clause-rejects : goal.returns-clause-rejects
+returns-clause-rejects c = rejects

@@ -11,7 +11,7 @@ use Rattle.moos_jobs.proofs.share_job.share_bridge.Goals as goal
 pub returns-in-Err-clause-ends : goal.returns-in-Err-clause-ends
 returns-in-Err-clause-ends g c = λ turn front turns.
     load_ends share_outcomes _ _ _ _ _ _ turn front BridgeFile c.args.name.now _ c.in-Err.fault c.unloaded.result (ap turn (sym (append-nil front)) ∙ turns []) c.bytes.ensures.value
-    c.in-Err.ensures.rose c.in-Err.ensures.unsure c.unloaded.ensures.failed c.unloaded.ensures.memory
+    c.in-Err.ensures.failed c.in-Err.ensures.rose c.in-Err.ensures.unsure c.unloaded.ensures.failed c.unloaded.ensures.memory
 
 pub returns-in-Ok-read_fitting-clause-ends : goal.returns-in-Ok-read_fitting-clause-ends
 returns-in-Ok-read_fitting-clause-ends g c = λ turn front turns.
@@ -19,7 +19,7 @@ returns-in-Ok-read_fitting-clause-ends g c = λ turn front turns.
     let next : List Rule → FileTurn ShareTask = λ rules. Ready (record { order = c.args.order; first = c.args.first.now; second = c.args.second.now; rules = rules }) in
     let read = ap (fitting_of c.args.first.now) (sym c.deref.ensures.value) ∙ c.in-Ok-read_fitting.ensures.read in
     last_ends share_outcomes _ _ _ _ _ turn front BridgeFile c.args.name.now _ bytes _ c.share_scripts.result (ap turn (sym (append-nil front)) ∙ turns []) c.bytes.ensures.value
-    c.in-Ok.ensures.content c.in-Ok.ensures.later (turns (bytes ∷ []) ∙ ap (turn_behind BridgeFile next) read) c.share_scripts.ensures
+    c.in-Ok.ensures.content c.in-Ok.ensures.heard (turns (bytes ∷ []) ∙ ap (turn_behind BridgeFile next) read) c.share_scripts.ensures
 
 pub returns-clause-ends : goal.returns-clause-ends
 returns-clause-ends g c = λ turn front turns.
@@ -28,5 +28,5 @@ returns-clause-ends g c = λ turn front turns.
     let first : IsFirst c.in-Err-read_fitting.fault (fitting_of c.args.first.now bytes)
     = subst (λ bytes. IsFirst c.in-Err-read_fitting.fault (fitting_of c.args.first.now bytes)) c.deref.ensures.value c.in-Err-read_fitting.ensures.refused in
     last_ends share_outcomes _ _ _ _ _ turn front BridgeFile c.args.name.now _ bytes _ c.refused.result (ap turn (sym (append-nil front)) ∙ turns []) c.bytes.ensures.value
-    c.in-Ok.ensures.content c.in-Ok.ensures.later (turns (bytes ∷ []))
+    c.in-Ok.ensures.content c.in-Ok.ensures.heard (turns (bytes ∷ []))
     (refusal_ends share_outcomes next BridgeFile _ c.in-Err-read_fitting.fault c.refused.result _ _ first c.refused.ensures)

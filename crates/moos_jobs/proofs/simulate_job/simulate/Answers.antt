@@ -14,15 +14,15 @@ use Rattle.moos_jobs.proofs.simulate_job.simulate.Goals as goal
 pub returns-in-Err-clause-ends : goal.returns-in-Err-clause-ends
 returns-in-Err-clause-ends g c =
     load_ends simulate_outcomes _ _ _ _ _ _ (simulate_turn c.args.script.now c.args.mission.now c.args.vehicle.now c.args.contacts.now) [] ScriptFile c.args.script.now _ c.in-Err.fault c.unloaded.result refl c.bytes.ensures.value
-    c.in-Err.ensures.rose c.in-Err.ensures.unsure c.unloaded.ensures.failed c.unloaded.ensures.memory
+    c.in-Err.ensures.failed c.in-Err.ensures.rose c.in-Err.ensures.unsure c.unloaded.ensures.failed c.unloaded.ensures.memory
 
 pub returns-in-Ok-read_simulated-clause-ends : goal.returns-in-Ok-read_simulated-clause-ends
 returns-in-Ok-read_simulated-clause-ends g c =
     let bytes = c.in-Ok.bytes.items in
     let read : simulated_script (is_some c.args.contacts.now) bytes ≡ Ok c.in-Ok-read_simulated.script = (λ i. simulated_script (sym c.is_some.ensures i) (sym c.deref.ensures.value i)) ∙ c.in-Ok-read_simulated.ensures.read in
     went_on simulate_outcomes (surroundings _ _ _ _ _) (surroundings _ _ _ _ _)
-    (record { told = c.in-Ok.ensures.same.0; sure = c.in-Ok.ensures.same.1; sink = refl; before = c.in-Ok.ensures.later; after = refl })
-    (simulate_turn c.args.script.now c.args.mission.now c.args.vehicle.now c.args.contacts.now) [] ScriptFile c.args.script.now _ bytes refl c.bytes.ensures.value c.in-Ok.ensures.content c.with_helm.result
+    (simulate_turn c.args.script.now c.args.mission.now c.args.vehicle.now c.args.contacts.now) [] ScriptFile c.args.script.now _ bytes
+    (record { told = c.in-Ok.ensures.same.0; sure = c.in-Ok.ensures.same.1; sink = refl; before = c.in-Ok.ensures.heard; after = refl }) refl c.bytes.ensures.value c.in-Ok.ensures.content c.with_helm.result
     (c.with_helm.ensures.ends (simulate_turn c.args.script.now c.args.mission.now c.args.vehicle.now c.args.contacts.now) (bytes ∷ [])
     (λ files. ap (turn_behind ScriptFile (λ script. helm_turn (vehicle_turn script c.args.vehicle.now c.args.contacts.now) script c.args.mission.now files)) read))
 
@@ -33,5 +33,5 @@ returns-clause-ends g c =
     let first : IsFirst c.in-Err-read_simulated.fault (simulated_script (is_some c.args.contacts.now) bytes)
     = subst (IsFirst c.in-Err-read_simulated.fault) (λ i. simulated_script (c.is_some.ensures i) (c.deref.ensures.value i)) c.in-Err-read_simulated.ensures.refused in
     last_ends simulate_outcomes _ _ _ _ _ (simulate_turn c.args.script.now c.args.mission.now c.args.vehicle.now c.args.contacts.now) [] ScriptFile c.args.script.now _ bytes _ c.refused.result refl c.bytes.ensures.value
-    c.in-Ok.ensures.content c.in-Ok.ensures.later refl
+    c.in-Ok.ensures.content c.in-Ok.ensures.heard refl
     (refusal_ends simulate_outcomes next ScriptFile _ c.in-Err-read_simulated.fault c.refused.result _ _ first c.refused.ensures)

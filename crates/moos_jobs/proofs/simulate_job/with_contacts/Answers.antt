@@ -1,5 +1,5 @@
 -- The contacts file is loaded last, where there is one, and then all is played, or it is refused.
-use Rattle.std.proofs.Common.{◌≡◌, ◌∙◌, ◌∷◌, [], ap, append-nil, subst, sym}
+use Rattle.std.proofs.Common.{◌≡◌, ◌∙◌, ◌∷◌, [], ap, append-nil, refl, subst, sym}
 use Rattle.std.specs.Prelude.{Err, Ok, Some}
 use Rattle.contact_avoid.specs.declared.ranges.Ranges.{Ranges}
 use Rattle.contact_avoid.specs.RangeFiles.{ranges_of}
@@ -15,15 +15,15 @@ use Rattle.moos_jobs.proofs.simulate_job.with_contacts.Goals as goal
 pub returns-in_default-clause-ends : goal.returns-in_default-clause-ends
 returns-in_default-clause-ends g c = λ turn front turns.
     let now = ap turn (sym (append-nil front)) ∙ turns [] ∙ ap (λ contacts. contacts_turn c.args.script.now c.args.files contacts c.args.craft []) c.in_default.is in
-    let run = surroundings (g.F.Folder.told c.args.folder.now) (g.F.Folder.sure c.args.folder.now) (g.F.Folder.faults c.args.folder.now) (g.F.Folder.faults c.args.folder.now)
+    let run = surroundings (g.F.Folder.told c.args.folder.now) (g.F.Folder.sure c.args.folder.now) (g.F.Folder.heard c.args.folder.now) (g.F.Folder.heard c.args.folder.now)
     (sinking (g.K.Sink.taken c.args.out.now) (g.K.Sink.taken c.sail_helm.new.out) (g.K.Sink.faults c.args.out.now) (g.K.Sink.faults c.sail_helm.new.out)) in
-    ends_here simulate_outcomes run turn front c.sail_helm.result (subst (λ turn. Ended simulate_outcomes turn run.sink c.sail_helm.result) (sym now) c.sail_helm.ensures)
+    ends_here simulate_outcomes run turn front c.sail_helm.result refl (subst (λ turn. Ended simulate_outcomes turn run.sink c.sail_helm.result) (sym now) c.sail_helm.ensures)
 
 pub returns-in-Err-clause-ends : goal.returns-in-Err-clause-ends
 returns-in-Err-clause-ends g c = λ turn front turns.
     let now = ap turn (sym (append-nil front)) ∙ turns [] ∙ ap (λ contacts. contacts_turn c.args.script.now c.args.files contacts c.args.craft []) c.in-Some.is in
     load_ends simulate_outcomes _ _ _ _ _ _ turn front ContactsFile _ _ c.in-Err.fault c.unloaded.result now c.bytes.ensures.value
-    c.in-Err.ensures.rose c.in-Err.ensures.unsure c.unloaded.ensures.failed c.unloaded.ensures.memory
+    c.in-Err.ensures.failed c.in-Err.ensures.rose c.in-Err.ensures.unsure c.unloaded.ensures.failed c.unloaded.ensures.memory
 
 pub returns-clause-ends : goal.returns-clause-ends
 returns-clause-ends g c = λ turn front turns.
@@ -32,7 +32,7 @@ returns-clause-ends g c = λ turn front turns.
     let now = ap turn (sym (append-nil front)) ∙ turns [] ∙ ap (λ contacts. contacts_turn c.args.script.now c.args.files contacts c.args.craft []) c.in-Some.is in
     let read : ranges_of bytes ≡ Ok c.in-Ok-read.ranges = ap ranges_of (sym c.deref.ensures.value) ∙ c.in-Ok-read.ensures.read in
     last_ends simulate_outcomes _ _ _ _ _ turn front ContactsFile _ _ bytes _ c.sail_helm-2.result now c.bytes.ensures.value
-    c.in-Ok.ensures.content c.in-Ok.ensures.later (turns (bytes ∷ []) ∙ ap (λ contacts. contacts_turn c.args.script.now c.args.files contacts c.args.craft (bytes ∷ [])) c.in-Some.is ∙ ap (turn_behind ContactsFile next) read) c.sail_helm-2.ensures
+    c.in-Ok.ensures.content c.in-Ok.ensures.heard (turns (bytes ∷ []) ∙ ap (λ contacts. contacts_turn c.args.script.now c.args.files contacts c.args.craft (bytes ∷ [])) c.in-Some.is ∙ ap (turn_behind ContactsFile next) read) c.sail_helm-2.ensures
 
 pub returns-in-Err-read-clause-ends : goal.returns-in-Err-read-clause-ends
 returns-in-Err-read-clause-ends g c = λ turn front turns.
@@ -41,5 +41,5 @@ returns-in-Err-read-clause-ends g c = λ turn front turns.
     let now = ap turn (sym (append-nil front)) ∙ turns [] ∙ ap (λ contacts. contacts_turn c.args.script.now c.args.files contacts c.args.craft []) c.in-Some.is in
     let read : ranges_of bytes ≡ Err c.in-Err-read.fault = ap ranges_of (sym c.deref.ensures.value) ∙ c.in-Err-read.ensures.refused in
     last_ends simulate_outcomes _ _ _ _ _ turn front ContactsFile _ _ bytes _ c.refused.result now c.bytes.ensures.value
-    c.in-Ok.ensures.content c.in-Ok.ensures.later (turns (bytes ∷ []) ∙ ap (λ contacts. contacts_turn c.args.script.now c.args.files contacts c.args.craft (bytes ∷ [])) c.in-Some.is)
+    c.in-Ok.ensures.content c.in-Ok.ensures.heard (turns (bytes ∷ []) ∙ ap (λ contacts. contacts_turn c.args.script.now c.args.files contacts c.args.craft (bytes ∷ [])) c.in-Some.is)
     (refusal_ends simulate_outcomes next ContactsFile _ c.in-Err-read.fault c.refused.result _ _ (the_first c.in-Err-read.fault (ranges_of bytes) read) c.refused.ensures)

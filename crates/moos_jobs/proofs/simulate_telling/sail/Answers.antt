@@ -19,7 +19,7 @@ returns-in-Ok g c = λ task of.
       same_setup = of.same_setup;
       told = of.told;
       ranges = of.ranges;
-      worth = of.worth;
+      steers = of.steers;
     })
 
 pub returns-in-Err : goal.returns-in-Err

@@ -1,101 +1,20 @@
--- The play is told from its openings, round by round, to its end.
-use Rattle.std.proofs.Common.{◌≡◌, ◌+◌, ◌++◌, ◌<◌, ◌^◌, ◌∙◌, ap, arith, length, refl, subst, sym, List, ℕ, Option}
-use Rattle.std.specs.Prelude.{IfNone, IfSome}
-use Rattle.moos_io.proofs.Writing.{fares_further}
-use Rattle.moos_io.specs.Pieces.{Took, TookFront}
-use Rattle.moos_play.specs.Plays.{clients_in, GoesOnWith, helm_in, history_in, iterations_made, Playing, script_played}
-use Rattle.moos_report.proofs.KeptLines.{no_lines}
-use Rattle.moos_report.specs.Lines.{KeepsLines}
-use Rattle.moos_report.specs.Parts.{front_text}
-use Rattle.moos_simulate.specs.Sailing.{IsSailedOut, IsSimulating}
-use Rattle.moos_jobs.proofs.Fetching.{IsRunWell}
-use Rattle.moos_jobs.proofs.Rounds.{end_told, goes_on_twice, told_front}
-use Rattle.moos_jobs.specs.Telling.{IsToldSoFar}
-use Rattle.moos_jobs.proofs.SimulatedReports.{may_report, named_sailing, of_on}
-use Rattle.moos_jobs.specs.Simulating.{IsVoyage}
+-- The writer is made clear, and holds nothing that the sink could still take when it is let go: the sink is then as it was left.
+use Rattle.std.proofs.Common.{subst, sym, ◌∙◌}
+use Rattle.command_line.specs.Endings.{sinking}
+use Rattle.moos_play.specs.Plays.{clients_in, helm_in, script_played}
+use Rattle.moos_jobs.specs.Simulating.{IsOfSimulation, Simulation, TellsVoyage}
 use Rattle.moos_jobs.proofs.simulate_telling.tell.Goals as goal
 
-pub tell_opening-requires-clause-kept : goal.tell_opening-requires-clause-kept
-tell_opening-requires-clause-kept g c = no_lines (clients_in c.args.play.now) (history_in c.args.play.now) _ c.new-kept.ensures
+pub tell_through-status-requires-clause-clear : goal.tell_through-status-requires-clause-clear
+tell_through-status-requires-clause-clear g c κs lives = record { empty = c.new-writer.ensures.empty; going = c.new-writer.ensures.going }
 
-pub returns-in-Err : goal.returns-in-Err
-returns-in-Err g c = λ task of.
+-- the facts on a vehicle are too many for a search to find that the sink is the same one
+pub returns : goal.returns
+returns g c =
     let play = c.args.play.now in
-    let vehicle = c.args.vehicle.now in
-    let setup = c.args.setup.now in
-    let before = g.K.Sink.taken c.args.out.now in
-    let after = g.K.Sink.taken c.tell_opening.new.out in
-    let voyage = c.front_law.ensures in
-    let law = c.front_law-2.ensures in
-    let well : IsRunWell play = record { valid = law.valid; helm = law.helm; steered = law.steered } in
-    let front = subst (λ made. TookFront before after (front_text setup (clients_in play) (history_in play) made)) (sym c.requires.begun) c.in-Err.ensures.front in (
-      told_front setup play c.parts_law.ensures.fronts well (named_sailing vehicle play c.requires.simulating law.valid) voyage.rest voyage.more (IsVoyage task)
-          (may_report task setup vehicle.gear (script_played play) (helm_in play) (clients_in play) (history_in play ++ voyage.rest) (iterations_made play ++ voyage.more) of voyage.simulated voyage.iterations)
-          before after _ _ front,
-      c.in-Err.ensures.rose,
-    )
-
-pub loop-more-init : goal.loop-more-init
-loop-more-init g c =
-    let play = c.args.play.now in
-    let setup = c.args.setup.now in
-    let before = g.K.Sink.taken c.args.out.now in
-    let after = g.K.Sink.taken c.tell_opening.new.out in
-    let same = sym c.tell_opening.ensures.same in
-    record {
-      empty = c.new-buffer.ensures;
-      kept = subst (λ (play : Playing). KeepsLines (clients_in play) (history_in play) c.tell_opening.new.kept) same c.tell_opening.ensures.kept;
-      simulating = subst (IsSimulating c.args.vehicle.now) same c.requires.simulating;
-      gear = refl;
-      same = subst (GoesOnWith play) same (record { script = refl; order = refl; names = refl; helm = refl });
-      made = sym (ap length c.requires.begun) ∙ ap (λ (play : Playing). length (iterations_made play)) same;
-      told = subst (IsToldSoFar setup before after) same
-          (subst (λ made. Took before after (front_text setup (clients_in play) (history_in play) made)) (sym c.requires.begun) c.in_default.ensures.ok);
-      later = c.tell_opening.ensures.later;
-    }
-
-pub overflow_add-made : goal.overflow_add-made
-overflow_add-made g c =
-    let few = subst (λ more. IfSome more (λ more. c.loop-more.made + more < 2 ^ 64)) c.in-Ok-Some.field-0-is c.in-Ok-Some.ensures.few in
-    omega (arith, few)
-
-pub loop-more-preserved : goal.loop-more-preserved
-loop-more-preserved g c =
-    let old = c.loop-more.play in
-    let new = c.tell_round.new.play in
-    let kept = c.loop-more.invariant in
-    let is = c.in-Ok-Some.field-0-is in
-    record {
-      empty = c.in-Ok-Some.ensures.empty;
-      kept = c.in-Ok-Some.ensures.kept;
-      simulating = c.in-Ok-Some.ensures.simulating;
-      gear = c.in-Ok-Some.ensures.gear ∙ kept.gear;
-      same = goes_on_twice c.args.play.now old new kept.same c.in-Ok-Some.ensures.same;
-      made = sym (subst (λ more. IfSome more (λ more. length (iterations_made new) ≡ c.loop-more.made + more)) is c.in-Ok-Some.ensures.made);
-      told = (subst (λ more. IfSome more (λ _. (before : Option (List ℕ)) → IsToldSoFar c.args.setup.now before (g.K.Sink.taken c.loop-more.out) old → IsToldSoFar c.args.setup.now before (g.K.Sink.taken c.tell_round.new.out) new))
-          is c.in-Ok-Some.ensures.told) (g.K.Sink.taken c.args.out.now) kept.told;
-      later = fares_further _ _ _ kept.later c.in-Ok-Some.ensures.later;
-    }
-
-pub returns-in-Ok-None : goal.returns-in-Ok-None
-returns-in-Ok-None g c = λ task of.
-    let old = c.loop-more.play in
-    let new = c.tell_round.new.play in
-    let kept = c.loop-more.invariant in
-    let setup = c.args.setup.now in
-    let before = g.K.Sink.taken c.args.out.now in
-    let between = g.K.Sink.taken c.tell_round.new.out in
-    let gear = c.loop-more.vehicle.gear in
-    let over = subst (λ more. IfNone more (IsSailedOut gear new × (new ≡ old) × (between ≡ g.K.Sink.taken c.loop-more.out))) c.in-Ok-None.field-0-is c.in-Ok-None.ensures.over in
-    let on = goes_on_twice c.args.play.now old new kept.same c.in-Ok-None.ensures.same in
-    let told = subst (IsToldSoFar setup before between) (sym over.1) (subst (λ between. IsToldSoFar setup before between old) (sym over.2) kept.told) in
-    let of_new = of_on task setup c.args.vehicle.now.gear gear c.args.play.now new on kept.gear of in
-    end_told setup new (IsVoyage task) before between _ _ (g.K.Sink.faults c.tell_round.new.out) _ c.tell_end.result c.written.result
-    (may_report task setup gear (script_played new) (helm_in new) (clients_in new) (history_in new) (iterations_made new) of_new over.0.simulated (sym over.0.iterations)) told
-    c.tell_end.ensures.ok c.tell_end.ensures.front (fares_further _ _ _ kept.later c.in-Ok-None.ensures.later) c.tell_end.ensures.rose c.written.ensures.all c.written.ensures.fault
-
-pub returns-in-Err-tell_round : goal.returns-in-Err-tell_round
-returns-in-Err-tell_round g c = λ task of.
-    let kept = c.loop-more.invariant in
-    c.in-Err-tell_round.ensures.stopped task (g.K.Sink.taken c.args.out.now) (g.K.Sink.faults c.args.out.now)
-    (of_on task c.args.setup.now c.args.vehicle.now.gear c.loop-more.vehicle.gear c.args.play.now c.loop-more.play kept.same kept.gear of) kept.later kept.told
+    let before = c.args.out.now in
+    let left = c.out-1.given.1 (sym (c.tell_through-status.ensures.sink ∙ c.new-writer.ensures.same)) ∙ c.close.ensures in
+    subst
+    (λ now. (task : Simulation) → IsOfSimulation task c.args.setup.now c.args.vehicle.now.gear (script_played play) (helm_in play) (clients_in play)
+    → TellsVoyage task (sinking (g.K.Sink.taken before) (g.K.Sink.taken now) (g.K.Sink.faults before) (g.K.Sink.faults now)) c.tell_through-status.result)
+    (sym left) (λ task of. rw c.new-writer.ensures.now at (c.tell_through-status.ensures.told task of))

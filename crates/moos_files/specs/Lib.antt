@@ -1,0 +1,9 @@
+pub mod Asked
+pub mod Files
+pub mod Heard
+pub mod OutState
+pub mod Gathered
+pub mod DirState
+pub mod FolderState
+pub mod Loads
+pub mod Answers
