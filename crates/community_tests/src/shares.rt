@@ -4,20 +4,28 @@ ghost use Rattle.script_reader.specs.Validity.{IsValid};
 use crate::made::{append, check, count, words};
 use moos_bridged::{Shared, share};
 use moos_db::Db;
-use moos_io::NoGate;
+use moos_io::{Gate, NoGate};
 use moos_post::{Batch, Call, Entry, Value};
 use moos_share::{Rules, read_bridge};
 use script_reader::{Order, Script, read_script};
 use std::alloc::Global;
+use std::hint::spin_loop;
 use std::process::Abort;
 use std::sync::Wait;
+use std::sync::atomic::{AtomicBool, AtomicU64, Ordering};
 use std::thread::Threads;
 
 fn script_of(rt: &impl Abort, alloc: Global, text: &str) -> Script
     ensures { IsValid result }
 {
-    assert!(rt; text.len() < 1000);
-    match read_script(alloc, text.as_bytes()) {
+    script_in(rt, alloc, text.as_bytes())
+}
+
+fn script_in(rt: &impl Abort, alloc: Global, text: &[u8]) -> Script
+    ensures { IsValid result }
+{
+    assert!(rt; text.len() < 10_000);
+    match read_script(alloc, text) {
         Ok(script) => script,
         Err(_) => panic!(rt; "a script"),
     }
@@ -267,4 +275,68 @@ fn shared_in_a_race(rt: HostRuntime) {
         has_posted(&rt, rt.alloc(), &shared.first, bridges[0], b"");
         has_posted(&rt, rt.alloc(), &shared.second, bridges[1], *vars);
     }
+}
+
+/// Holds each of four clients before its first call, two of either community, until all four are there, or lets go after a
+/// while. It counts the calls that it is told under the numbers of the second community's clients, 2 and 3.
+#[derive(Drop)]
+struct Meeting {
+    arrived: AtomicU64,
+    seconds: AtomicU64,
+    missed: AtomicBool,
+}
+
+impl Gate for Meeting {
+    fn at_node(&self, _worker: u32, _nth: u64) {}
+
+    fn at_call(&self, client: u32, nth: u64) {
+        if client == 2 || client == 3 {
+            self.seconds.fetch_add(1, Ordering::SeqCst);
+        }
+        if nth > 0 {
+            return;
+        }
+        self.arrived.fetch_add(1, Ordering::SeqCst);
+        for _ in 0..100_000_000u32 {
+            if self.arrived.load(Ordering::SeqCst) >= 4 {
+                return;
+            }
+            spin_loop();
+        }
+        self.missed.store(true, Ordering::SeqCst);
+    }
+}
+
+// A script in which each of these lines stands so many times.
+fn repeated(rt: &impl Abort, alloc: Global, lines: &[&[u8]], times: u32) -> Script
+    ensures { IsValid result }
+{
+    let mut text = Vec::new(alloc);
+    for line in lines {
+        for _ in 0..times {
+            append(rt, &mut text, &[*line]);
+        }
+    }
+    script_in(rt, alloc, text.as_slice())
+}
+
+// Four clients with so many calls at one stamp, two of either community, are beside each other, and the gate tells them apart.
+fn meet<R: Threads + Wait + Sync + Abort>(rt: &R, alloc: Global, order: Order, times: u32) {
+    let first = repeated(rt, alloc, &[b"1 a fetch\n", b"1 b fetch\n"], times);
+    let second = repeated(rt, alloc, &[b"1 a fetch\n", b"1 b fetch\n"], times);
+    let rules = rules_of(rt, alloc, "share * * 0 -");
+    let gate = Meeting {
+        arrived: AtomicU64::new(0),
+        seconds: AtomicU64::new(0),
+        missed: AtomicBool::new(false),
+    };
+    share(rt, alloc, &first, &second, rules, order, &gate).expect(rt, "memory");
+    assert!(rt; !gate.missed.load(Ordering::SeqCst));
+    assert!(rt; gate.seconds.load(Ordering::SeqCst) == u64::from(times) * 2);
+}
+
+#[test]
+fn communities_beside(rt: HostRuntime) {
+    meet(&rt, rt.alloc(), Order::Race, 2);
+    meet(&rt, rt.alloc(), Order::Stamp, 64);
 }

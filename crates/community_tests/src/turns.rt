@@ -1,11 +1,12 @@
-// A journal of marks under a lock: each call once, and four threads beside each other.
+// A journal of marks under a lock: each call once, and four threads and many beside each other.
 ghost use Rattle.std.specs.Prelude.{◌≡◌, ◌≤◌, []};
+ghost use Rattle.std.specs.List.{All};
 ghost use Rattle.turn_lock.specs.Passes.{IsFree, IsOf, first_pass, met_with};
 
 use std::alloc::Global;
 use std::process::Abort;
 use std::sync::Wait;
-use std::thread::{Threads, join};
+use std::thread::{Threads, for_each_mut, join, yield_now};
 use turn_lock::{Journaled, Pass, TurnLock};
 
 /// One event: who made it, and how many the same one had made before.
@@ -111,7 +112,30 @@ fn each_call_once(rt: HostRuntime) {
     are_marks(&rt, journal.marks.as_slice(), &[(1, 0), (0, 0), (1, 1)]);
 }
 
+// Has a turn in which others run, so that those who ask meanwhile find the lock taken and go to sleep.
+fn dawdle<R: Wait>(rt: &R, lock: &TurnLock<Journal>, pass: &mut Pass<Journal>)
+    requires { IsOf lock.now pass.old × IsFree pass.old }
+    ensures { pass.new ≡ record pass.old { seen = pass.new.seen; mine = pass.new.mine } }
+{
+    let held = lock.take(rt, pass);
+    for _ in 0..5u32 {
+        yield_now();
+    }
+    lock.give_back(pass, held);
+}
+
 // Adds `marks` marks in turn.
+fn add_marks<R: Wait>(rt: &R, lock: &TurnLock<Journal>, pass: &mut Pass<Journal>, marks: u64)
+    requires { IsOf lock.now pass.old × IsFree pass.old }
+    ensures { pass.new ≡ record pass.old { seen = pass.new.seen; mine = pass.new.mine } }
+{
+    for count in 0..marks {
+        dawdle(rt, lock, pass);
+        add(rt, lock, pass, count);
+    }
+}
+
+// The same, and hands the pass on.
 fn add_all<R: Wait>(
     rt: &R,
     lock: &TurnLock<Journal>,
@@ -121,9 +145,7 @@ fn add_all<R: Wait>(
     requires { IsOf lock.now pass × IsFree pass }
     ensures { result ≡ record pass { seen = result.seen; mine = result.mine } }
 {
-    for count in 0..marks {
-        add(rt, lock, &mut pass, count);
-    }
+    add_marks(rt, lock, &mut pass, marks);
     pass
 }
 
@@ -212,4 +234,59 @@ fn four_threads(rt: HostRuntime) {
     for by in 1..5 {
         has_made(&rt, marks, by, MARKS);
     }
+}
+
+// So many passes, split off the first.
+fn split_many(
+    rt: &impl Abort,
+    alloc: Global,
+    lock: &TurnLock<Journal>,
+    zero: &mut Pass<Journal>,
+    passes: u32,
+) -> Vec<Pass<Journal>>
+    requires first { IsOf lock.now zero.old × IsFree zero.old }
+    requires some { passes ≤ zero.old.left }
+    ensures first { IsOf lock.now zero.new × IsFree zero.new }
+    ensures passes { All (λ pass. IsOf lock.now pass × IsFree pass) result.items }
+{
+    let mut split = Vec::new(alloc);
+    for nth in 0..passes {
+        match split.push(lock.split(zero)) {
+            Ok(()) => {}
+            Err(_) => panic!(rt; "memory"),
+        }
+    }
+    split
+}
+
+// Passes beside each other, each on a thread of its own.
+fn add_by_each<R: Threads + Wait + Sync>(
+    rt: &R,
+    lock: &TurnLock<Journal>,
+    passes: &mut Vec<Pass<Journal>>,
+    marks: u64,
+)
+    requires { All (λ pass. IsOf lock.now pass × IsFree pass) passes.old.items }
+{
+    let threads = passes.len();
+    if threads == 0 {
+        return;
+    }
+    for_each_mut(
+        rt,
+        passes.as_mut_slice(),
+        threads,
+        &|_, pass: &mut Pass<Journal>|
+            requires { IsOf lock.now pass.now × IsFree pass.now }
+        { add_marks(rt, lock, pass, marks) },
+    );
+}
+
+// Many threads, most of which sleep at any moment.
+#[test]
+fn many_threads(rt: HostRuntime) {
+    let (lock, mut zero) = journal_of(&rt, rt.alloc(), 33);
+    let mut passes = split_many(&rt, rt.alloc(), &lock, &mut zero, 32);
+    add_by_each(&rt, &lock, &mut passes, 50);
+    sees(&rt, &lock, &mut zero, 0, 1_600);
 }

@@ -20,8 +20,14 @@ use std::thread::Threads;
 fn script_of(rt: &impl Abort, alloc: Global, text: &str) -> Script
     ensures { IsValid result }
 {
-    assert!(rt; text.len() < 1000);
-    match read_script(alloc, text.as_bytes()) {
+    script_in(rt, alloc, text.as_bytes())
+}
+
+fn script_in(rt: &impl Abort, alloc: Global, text: &[u8]) -> Script
+    ensures { IsValid result }
+{
+    assert!(rt; text.len() < 10_000);
+    match read_script(alloc, text) {
         Ok(script) => script,
         Err(_) => panic!(rt; "no script"),
     }
@@ -30,6 +36,19 @@ fn script_of(rt: &impl Abort, alloc: Global, text: &str) -> Script
 // Three clients that make their first calls at one stamp.
 const THREE: &str =
     "1 a post X=1\n1 a fetch\n1 b post X=2\n1 b fetch\n1 b fetch\n1 c fetch\n1 c fetch\n";
+
+// Three clients with so many calls at one stamp that each makes them on a thread of its own.
+fn heavy_script(rt: &impl Abort, alloc: Global) -> Script
+    ensures { IsValid result }
+{
+    let mut text = Vec::new(alloc);
+    for line in [b"1 a fetch\n", b"1 b fetch\n", b"1 c fetch\n"] {
+        for _ in 0..64u32 {
+            text.extend_from_slice(line).expect(rt, "memory");
+        }
+    }
+    script_in(rt, alloc, text.as_slice())
+}
 
 /// Holds each of three clients before its first call until all three are there, and client 0 besides until client 1 is
 /// before its third; or lets go after a while.
@@ -101,8 +120,9 @@ fn meet<R: Threads + Wait + Sync + Abort>(rt: &R, alloc: Global, script: &Script
 #[test]
 fn clients_beside(rt: HostRuntime) {
     let script = script_of(&rt, rt.alloc(), THREE);
-    meet(&rt, rt.alloc(), &script, Order::Stamp);
     meet(&rt, rt.alloc(), &script, Order::Race);
+    let script = heavy_script(&rt, rt.alloc());
+    meet(&rt, rt.alloc(), &script, Order::Stamp);
 }
 
 // A helm that has something to begin with, four times a second.

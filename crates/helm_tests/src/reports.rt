@@ -69,12 +69,12 @@ const REPORT: &str = "%% moosdb play 1
 %% end 4 2
 ";
 
-// Puts to the sink that fail, and how many bytes it has then. The last row has none that fails.
-const PUTS: &[&str] = &["0 0", "1 38", "2 269", "3 280"];
+// Puts to the sink that fail, and how many bytes it has then: a put takes 100 at most. The last row has none that fails.
+const PUTS: &[&str] = &["0 0", "1 100", "2 200", "3 280"];
 
 // A sink of which this put fails.
 fn sink_of(rt: &impl Abort, alloc: Global, mark: u64) -> MemSink {
-    let mut sink = MemSink::make(alloc, 2000, 4096).expect(rt, "memory");
+    let mut sink = MemSink::make(alloc, 2000, 100).expect(rt, "memory");
     sink.fail_at(mark).expect(rt, "memory");
     sink
 }
@@ -123,7 +123,7 @@ fn has_part(rt: &impl Abort, alloc: Global, db: &Db) {
     holds(rt, PART, sink.bytes() == PART.as_bytes());
 }
 
-// Head, entries and end leave in one put each, and if one of these fails those before it are out.
+// If a put fails, those before it are out, and no other is tried.
 #[test]
 fn reports(rt: HostRuntime) {
     let db = community(&rt, rt.alloc());

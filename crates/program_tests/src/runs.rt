@@ -1,5 +1,6 @@
 // Runs over folders and sinks in memory, if memory is left, and rows that tell how each ends and what it writes.
-use moos_io::{Gate, MemFolder, MemSink, NoGate, Sink};
+use moos_files::MemFolder;
+use moos_io::{Gate, MemSink, NoGate, Sink};
 use moos_jobs::{Status, Word, Words, run};
 use std::alloc::Global;
 use std::process::Abort;

@@ -1,6 +1,6 @@
 // Runs of whole scripts: what each prints, worked by hand.
 ghost use Rattle.std.specs.Prelude.{None};
-ghost use Rattle.moos_io.specs.Answers.{unsure_faring};
+ghost use Rattle.moos_files.specs.Answers.{unsure_faring};
 
 use crate::files::{FIRST_REPORT, FIRST_SCRIPT};
 use crate::runs::{PLAY, Row, has_ended, rows_hold, run_into};

@@ -1,5 +1,6 @@
 // Folders and sinks: in memory, and the real ones.
 use crate::files::{append, check, joined};
+use moos_files::*;
 use moos_io::*;
 use std::alloc::Global;
 use std::fs;
@@ -130,12 +131,12 @@ fn what_never_fails(rt: HostRuntime) {
 
 // 4,000 times `word `, and then a piece that is longer than the buffer.
 fn write_words(sink: &mut MemSink, long: &[u8]) -> Result<(), Failed> {
-    let mut buffer = Buffer::new();
+    let mut writer = BufferedWriter::new(sink);
     for _ in 0..4000 {
-        buffer.write(sink, &[b"word".as_slice(), b" "])?;
+        writer.write(&[b"word".as_slice(), b" "]);
     }
-    buffer.write(sink, &[b"long ".as_slice(), long, b"\n"])?;
-    buffer.flush(sink)
+    writer.write(&[b"long ".as_slice(), long, b"\n"]);
+    writer.finish()
 }
 
 // All of those words, and then the pieces of the long one.
@@ -158,7 +159,7 @@ const RUNS: &[(&str, u64, Result<(), Failed>, usize)] = &[
 ];
 
 #[test]
-fn buffer_passes_words_on_in_few_puts(rt: HostRuntime) {
+fn writer_passes_words_on_in_few_puts_until_one_fails(rt: HostRuntime) {
     let alloc = rt.alloc();
     let long = [b'x'; 17000];
     let whole = words_and_long(&rt, alloc, &long);
