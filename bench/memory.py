@@ -116,16 +116,16 @@ class Trials:
 def inputs_of(trials, alpha):
     words = {
         "first": (["play", "examples/first/script.txt"], ""),
-        "modes": (["play", "examples/modes/script.txt", "examples/modes/mission.moos"], ""),
-        "station, 16 workers": (["play", "examples/station/script.txt", "examples/station/mission.moos", "--workers", "16"], ""),
-        "share": (["share", "examples/share/alpha.txt", "examples/share/bravo.txt", "examples/share/alpha.bridge"], ""),
+        "modes": (["play", "script.txt", "mission.moos"], "examples/modes"),
+        "station, 16 workers": (["play", "script.txt", "mission.moos", "--workers", "16"], "bench/station"),
+        "share": (["share", "alpha-script.txt", "bravo-script.txt", "alpha-bridge.txt"], "examples/share"),
         "solve": (["solve", "examples/problems/course-speed.txt"], ""),
         "solve, 16 workers": (["solve", "examples/problems/course-speed.txt", "--workers", "16"], ""),
     }
     if alpha:
-        words["alpha"] = (["play", "alpha.script", "alpha.moos"], "examples/alpha")
-        words["alpha, 16 workers"] = (["play", "alpha.script", "alpha.moos", "--workers", "16"], "examples/alpha")
-        words["avoid"] = (["simulate", "meet.script", "mission.moos", "ship.vehicle", "ship.contacts"], "examples/avoid")
+        words["alpha"] = (["play", "script.txt", "mission.moos"], "examples/alpha")
+        words["alpha, 16 workers"] = (["play", "script.txt", "mission.moos", "--workers", "16"], "examples/alpha")
+        words["avoid"] = (["simulate", "script.txt", "mission.moos", "vehicle.txt", "contacts.txt"], "examples/avoid")
     found = {name: Input(line, folder, [trials.known(line, folder)]) for name, (line, folder) in words.items()}
     beside = ["play", "examples/beside/script.txt"]
     found["beside"] = Input(beside, "", beside_reports(False))

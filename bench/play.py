@@ -6,6 +6,9 @@
                                        which takes the same words
     bench/play.py --helm [PROGRAM..]   scripts with a helm of 20,000 ticks, likewise
     bench/play.py --behaviors [PROGRAM..]   a script with a position each second, and 20,000 ticks of a helm with behaviours
+    bench/play.py --stamps [PROGRAM..]  scripts whose clients share their stamps, likewise
+    bench/play.py --late [PROGRAM..]    scripts in which a client registers for all when much was posted, likewise
+    bench/play.py --known [PROGRAM..]   scripts with a helm that has learnt much, likewise
 
 For each length: one client that only posts; one that registers first and posts; and one that registers, posts, and
 fetches at every tenth line. Of many clients, each of which fetches once at the end: 64 of 256 registrations each that hear
@@ -13,7 +16,10 @@ none of 80,000 posts; 63 that hear each of 90,000; and 8 of 256 registrations ea
 posts. Further 64 that post at stamps of their own, and 64 in a race. With a helm that ticks four times a second: one client
 that posts once, so that nothing comes to a tick but the first; and 64 clients of 100,000 lines that the helm hears none of,
 or each; and the last in a race. With behaviours over course, speed and depth: four that want a heading, a speed, a depth and no greater depth; and one
-that goes round points, one that keeps a station, and one that wants a depth. Reports go to a file. Nothing here is part of the gate, and no figure is promised.
+that goes round points, one that keeps a station, and one that wants a depth. Of clients that share their stamps: 64 and 4 that post at
+each whole second, and 4 that post 64 times at each. A client that heard one of two variables at each post, 400,000 and 800,000 times,
+and then registers for all of 4,096. A helm of 4,000 ticks with a letter each that knows 1, 1,000 and 4,000 variables. Reports go to a
+file. Nothing here is part of the gate, and no figure is promised.
 """
 import os
 import subprocess
@@ -61,6 +67,47 @@ def apart():
 
 def race():
     return [f"0 p{k % 64} post X={k}" for k in range(20_000)]
+
+
+def seconds_shared(clients, seconds, times=1):
+    posted = [f"p{client} post X{client}={second}" for second in range(seconds) for _ in range(times) for client in range(clients)]
+    return [f"{k // (clients * times)} {words}" for k, words in enumerate(posted)]
+
+
+def sixty_four_share():
+    return seconds_shared(64, 1_500)
+
+
+def four_share():
+    return seconds_shared(4, 25_000)
+
+
+def four_share_heavily():
+    return seconds_shared(4, 390, 64)
+
+
+def by_sixty_fours(pairs):
+    return [" # ".join(pairs[k : k + 64]) for k in range(0, len(pairs), 64)]
+
+
+def registered_late(times):
+    begun = [f"1 p0 post {batch}" for batch in by_sixty_fours([f"N{k}=0" for k in range(4094)])]
+    heard = [f"2 p0 post {batch}" for batch in by_sixty_fours(["HEARD=1", "UNHEARD=1"] * (times // 2))]
+    return ["0 p1 register HEARD"] + begun + heard + ["3 p1 register *", "4 p1 fetch"]
+
+
+def late():
+    return registered_late(400_000)
+
+
+def later():
+    return registered_late(800_000)
+
+
+def learnt(names):
+    begun = [f"0 p0 post {batch}" for batch in by_sixty_fours([f"N{k}=1" for k in range(names)])]
+    told = [f"{k // 4}.{k % 4 * 25 + 10:02d} p0 post N0=1" for k in range(4_000)]
+    return ["0 p0 post DEPLOY=true # MOOS_MANUAL_OVERRIDE=false"] + begun + told + ["1000 until"]
 
 
 def quiet():
@@ -121,6 +168,15 @@ STEERING = (
 )
 
 
+def asking(names):
+    """Behaviours that each ask for a hundred variables, and so have the helm learn them."""
+    blocks = []
+    for first in range(0, names, 100):
+        asked = " or ".join(f"N{k} = 1" for k in range(first, min(first + 100, names)))
+        blocks.append(behavior("BHV_ConstantHeading", "heading = 90", f"condition = {asked}").replace("name = BHV", f"name = B{first}_BHV"))
+    return "".join(blocks)
+
+
 def sailed():
     given = ["0 nav post MOOS_MANUAL_OVERRIDE=false # NAV_X=0 # NAV_Y=0 # NAV_DEPTH=3"]
     told = [f"{k}.5 nav post NAV_X={k * 37 % 401 - 200} # NAV_Y={k * 53 % 401 - 200}" for k in range(4999)]
@@ -129,6 +185,10 @@ def sailed():
 
 # The scripts of many clients, and the words behind each.
 WIDE = [(unheard, []), (heard, []), (chosen, []), (apart, []), (race, ["--race"])]
+
+# Those whose clients share stamps, and those with a late registration.
+STAMPS = [(sixty_four_share, []), (four_share, []), (four_share_heavily, [])]
+LATE = [(late, []), (later, [])]
 
 # The scripts with a helm, likewise.
 HELM = [(quiet, []), (unwanted, []), (wanted, []), (wanted_race, ["--race"])]
@@ -171,6 +231,20 @@ def main():
 
         if sys.argv[1:2] == ["--wide"]:
             return compare(WIDE, [])
+        if sys.argv[1:2] == ["--stamps"]:
+            return compare(STAMPS, [])
+        if sys.argv[1:2] == ["--late"]:
+            return compare(LATE, [])
+        if sys.argv[1:2] == ["--known"]:
+            mission, behaviors = os.path.join(folder, "mission.moos"), os.path.join(folder, "behaviors.bhv")
+            for names in 1, 1_000, 4_000:
+                write(learnt(names))
+                for name, content in (behaviors, asking(names)), (mission, MISSION.format(behaviors)):
+                    with open(name, "w") as out:
+                        out.write(content)
+                for program in [MOOS] + sys.argv[2:]:
+                    show(f"known {names} {os.path.basename(program)}", program, script, [mission], report)
+            return None
         if sys.argv[1:2] == ["--helm"]:
             mission, modes = os.path.join(folder, "mission.moos"), os.path.join(folder, "modes.bhv")
             for name, text in (modes, MODES), (mission, MISSION.format(modes)):
