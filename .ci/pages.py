@@ -9,6 +9,10 @@ CLAUSE = re.compile(r"^ +(?:requires|ensures)\b.*\n(?:^ {6,}.*\n)*", re.M)
 MARK = "°"
 
 
+# The two traits that the signature of `run` names, each with its crate.
+TRAITS = {"Folder": "moos_files", "Sink": "moos_io"}
+
+
 class Top:
     """The contracts of the top call, the two traits and the two types that its signature names, and what these rest on."""
 
@@ -16,12 +20,12 @@ class Top:
         self.space = space
         self.source = next(source for source in space.sources["moos_jobs"] if "\npub fn run<" in source.text)
         self.contracts = {function: contract_of(function, self.source.text) for function in ("run", "run_law")}
-        self.traits = {name: trait_of(space.types["moos_io", name]) for name in ("Folder", "Sink")}
+        self.traits = {name: trait_of(space.types[crate, name]) for name, crate in TRAITS.items()}
         self.roots = [("type", "command_line", "Words"), ("type", "command_line", "Status")]
         for text in self.contracts.values():
             self.roots += space.spoken_of(self.source, WORD.findall("".join(CLAUSE.findall(text))))
         for name, text in self.traits.items():
-            self.roots += space.spoken_of(space.types["moos_io", name].source, WORD.findall(re.sub("//.*", "", text)))
+            self.roots += space.spoken_of(space.types[TRAITS[name], name].source, WORD.findall(re.sub("//.*", "", text)))
         self.seen = space.reached(self.roots)
         self.of_job = {job: space.reached(self.roots, job) for job in JOBS}
 
@@ -215,7 +219,7 @@ def print_run():
     for function, text in top.contracts.items():
         print(f"\nThe contract of `{function}`, in {top.source.path.relative_to(ROOT)}:\n\n```text\n{text.rstrip()}\n```")
     for name, text in top.traits.items():
-        path = space.types["moos_io", name].source.path.relative_to(ROOT)
+        path = space.types[TRAITS[name], name].source.path.relative_to(ROOT)
         print(f"\nThe trait `{name}`, in {path}:\n\n```text\n{text}\n```")
     print_definitions(space, top)
     print_kit(top)

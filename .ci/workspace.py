@@ -25,7 +25,7 @@ PARTING = (
     ("definition", "moos_jobs", "Jobs", "Task"),
     ("definition", "moos_jobs", "Jobs", "turn_of"),
     ("definition", "moos_jobs", "Jobs", "IsOutput"),
-    ("definition", "moos_jobs", "Jobs", "IsToPlay"),
+    ("definition", "moos_jobs", "Jobs", "IsPartOutput"),
 )
 
 
