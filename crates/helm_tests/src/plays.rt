@@ -17,13 +17,13 @@ use std::sync::Wait;
 use std::sync::atomic::{AtomicBool, AtomicU64, Ordering};
 use std::thread::Threads;
 
-fn script_of(rt: &impl Abort, alloc: Global, text: &str) -> Script
+pub(crate) fn script_of(rt: &impl Abort, alloc: Global, text: &str) -> Script
     ensures { IsValid result }
 {
     script_in(rt, alloc, text.as_bytes())
 }
 
-fn script_in(rt: &impl Abort, alloc: Global, text: &[u8]) -> Script
+pub(crate) fn script_in(rt: &impl Abort, alloc: Global, text: &[u8]) -> Script
     ensures { IsValid result }
 {
     assert!(rt; text.len() < 10_000);

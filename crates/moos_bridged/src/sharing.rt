@@ -33,8 +33,8 @@ pub struct Shared {
 /// name `pShare`. It first registers in the first community for what its rules select, in one call at stamp 0.
 ///
 /// In order Stamp the stamps of both scripts are taken upward: at each all clients of both with lines there make their calls, and then
-/// the bridge carries once. The calls are made one after another, in the order of the first script's lines and then of the second's; if
-/// one of several clients has 64 lines there, or more, the clients of its script and the other script's make theirs beside each other.
+/// the bridge carries once. The calls are made one after another, in the order of the first script's lines and then of the second's. A
+/// client with 64 lines there or more makes its calls on a thread of its own; then the clients of the two scripts are beside each other.
 /// In order Race each client makes all its calls on a thread of its own, without waiting for others, and beside them the bridge
 /// carries once for each line of the first script, at its stamp; once all have made their calls it carries a last time, at the greater
 /// of both scripts' last stamps. The gate is called before each client's nth call, counted from 0, but not before the bridge's. It is

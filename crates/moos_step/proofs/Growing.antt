@@ -1,12 +1,11 @@
 -- What a step adds to the history, and all that a closed lock has.
-use Rattle.std.proofs.Common.{◌≡◌, ℕ, [], ◌++◌, sym, ap, ◌∙◌, subst, ◌+◌, List, append-nil, ◌-◌}
+use Rattle.std.proofs.Common.{◌≡◌, ℕ, [], ◌++◌, sym, ap, ◌∙◌, subst, List, append-nil}
 use Rattle.moos_client.specs.Calls.{entries_of, SeatState}
 use Rattle.moos_client.proofs.Histories.{none_left, own_rest}
 use Rattle.moos_step.specs.Steps.{IsWhole, GoesOn}
 use Rattle.moos_post.specs.History.{History}
 use Rattle.moos_post.specs.declared.entry.Entry.{Entry}
 use Rattle.turn_lock.specs.Passes.{Begins, known_of}
-use native.Mathlib.Decide.{ℕ_discrete}
 
 -- what a step adds to the history has of each client what the client may make
 pub grown : (may : ℕ → List Entry → Type 0) (before after : SeatState) → IsWhole before → (on : GoesOn may before after) → (n : ℕ) → may n (entries_of n on.later.0)

@@ -5,6 +5,8 @@ pub mod Taking
 pub mod Played
 pub mod Growing
 pub mod InTurn
+pub mod Few
+pub mod Weights
 pub mod Leading
 pub mod Calling
 pub mod Beside

@@ -1,5 +1,5 @@
 -- The seats of a run's clients: how the first takes in all others, and what the lines of a step do to them.
-use Rattle.std.specs.Prelude.{◌≡◌, ℕ, zero, suc, ◌+◌, ◌-◌, ◌==◌, ◌&&◌, ◌<◌, ◌≤◌, ◌≢◌, nat_lt, if◌then◌else◌, Bool, true, false, IsTrue, List, [], ◌∷◌, ◌++◌, length, map, take, drop, OnOk, Result, Ok, Err, count_by}
+use Rattle.std.specs.Prelude.{◌≡◌, ℕ, zero, suc, ◌+◌, ◌-◌, ◌==◌, ◌&&◌, ◌<◌, ◌≤◌, ◌≢◌, nat_lt, if◌then◌else◌, Bool, true, false, IsTrue, List, [], ◌∷◌, ◌++◌, length, map, take, drop, OnOk, OnErr, Result, Ok, Err, count_by, vec_capacity, vec_len, ◌⊎◌}
 use Rattle.std.specs.List.{All, list_all, list_any}
 use Rattle.moos_client.specs.Calls.{IsCalled, MayCall, SeatState, entries_of}
 use Rattle.moos_db.specs.declared.mail.Letter.{Letter}
@@ -8,6 +8,7 @@ use Rattle.moos_post.specs.declared.entry.Call.{Call}
 use Rattle.moos_post.specs.declared.entry.Entry.{Entry}
 use Rattle.moos_post.specs.Delivery.{is_fetch}
 use Rattle.moos_post.specs.History.{History}
+use Rattle.moos_step.specs.declared.apart.Apart.{Apart}
 use Rattle.moos_step.specs.declared.player.Player.{Player}
 use Rattle.turn_lock.specs.declared.view.Met.{Met}
 use Rattle.turn_lock.specs.Passes.{Begins, events_in, has_number, IsFree, IsOf, known_of, LockState}
@@ -47,6 +48,22 @@ IsPlayedBeside helm lines result client added = client ≢ helm → IsPlayed lin
 -- the player has played its lines among these, or a front of them if it found no memory
 abbrev pub HasEnded : List Entry → Player → Player → Type 0
 HasEnded lines before after = Makes (IsPlayed lines after.ended) before.seat after.seat
+
+-- The player has made the line's call if the line is its own, or found no memory for it; if it had found none before, nothing changed.
+pub record HasHeard (line : Entry) (before after : Player) : Type 0 where
+  pub played : OnOk before.ended (HasEnded (line ∷ []) before after)
+  pub stopped : OnErr before.ended (after ≡ before)
+
+-- the players of a step whose seats are apart from the first
+abbrev pub apart_in : Apart → List Player
+apart_in apart = apart.heavy.items ++ apart.light.items
+
+-- a player has joined those of one weight
+pub record HasJoined (player : Player) (before after : Apart) : Type 0 where
+  pub items : ((after.heavy.items ≡ before.heavy.items ++ player ∷ []) × (after.light.items ≡ before.light.items)) ⊎ ((after.heavy.items ≡ before.heavy.items) × (after.light.items ≡ before.light.items ++ player ∷ []))
+  pub heavy_room : vec_capacity after.heavy ≡ vec_capacity before.heavy
+  pub light_room : vec_capacity after.light ≡ vec_capacity before.light
+  pub more : vec_len after.heavy + vec_len after.light ≡ vec_len before.heavy + vec_len before.light + 1
 
 -- a seat apart from the first: its client may make calls, and it has taken in nobody
 pub record IsApart (lock : CommunityLock) (seat : SeatState) : Type 0 where

@@ -1,7 +1,7 @@
 // One client at play: its seat, and its lines as calls.
 ghost use Rattle.std.specs.Prelude.{◌≡◌, ◌∷◌, [], OnOk, OnErr};
 ghost use Rattle.moos_client.specs.Calls.{MayCall};
-ghost use Rattle.moos_step.specs.Steps.{HasEnded, HasMade, IsPlayed, Makes};
+ghost use Rattle.moos_step.specs.Steps.{HasEnded, HasHeard, HasMade, IsPlayed, Makes};
 
 use moos_client::{Lock, Seat, fetch_unread, post, register, unregister};
 use moos_io::Gate;
@@ -84,6 +84,35 @@ pub(crate) fn make_next<R: Wait, G: Gate>(
     make_call(rt, alloc, lock, seat, line)?;
     *calls = calls.saturating_add(1);
     Ok(())
+}
+
+/// Makes the call of a line if it is the player's, unless that has found no memory before.
+pub(crate) fn hear<R: Wait, G: Gate>(
+    rt: &R,
+    alloc: Global,
+    lock: &Lock,
+    player: &mut Player,
+    line: &Entry,
+    gate: &G,
+)
+    requires { MayCall lock.now player.old.seat }
+    ensures { HasHeard line.now player.old player.new }
+{
+    if player.seat.number() != line.client {
+        return;
+    }
+    if player.ended.is_err() {
+        return;
+    }
+    player.ended = make_next(
+        rt,
+        alloc,
+        lock,
+        &mut player.seat,
+        &mut player.calls,
+        line,
+        gate,
+    );
 }
 
 // Makes the call that a line of the seat's client asks for.

@@ -1,5 +1,5 @@
-// One step of the clients. If one of several clients has many lines, the seats of those that have lines are parted from the first,
-// their clients make their calls beside each other, and the first takes all in again.
+// One step of the clients; how the seats of those that have lines are parted from the first, how clients make their calls beside each
+// other, and how the first takes them in again.
 ghost use Rattle.std.specs.Prelude.{◌≡◌, ◌<◌, ◌≤◌, ◌^◌, length, nat_lt, IsTrue, IfOk, OnOk, OnErr, Ok};
 ghost use Rattle.std.specs.List.{All, AllZip, list_all};
 ghost use Rattle.std.specs.Thread.{IsSync};
@@ -7,6 +7,7 @@ ghost use Rattle.moos_client.specs.Calls.{MayCall};
 ghost use Rattle.moos_step.specs.Steps.{AreBusy, AreParted, busy_below, GoesOn, HasEnded, HasGrown, HasSeenAll, HasTaken, has_line, IsApart, IsGathered, IsNextBusy, IsPlayed, IsWhole};
 ghost use Rattle.turn_lock.specs.Passes.{HasAll, IsFree, IsOf};
 
+use crate::apart::play_apart;
 use crate::in_turn::play_in_turn;
 use crate::player::{Player, play_part};
 use moos_client::{Lock, Seat};
@@ -22,10 +23,10 @@ const COUNTED: usize = 64;
 /// So many lines of one stamp are worth a thread of their client's own.
 pub const HEAVY: usize = 64;
 
-/// Plays these lines in one step. If one of several clients has at least `heavy` of them, each client makes its calls on a
-/// thread of its own, and else they make them one after another in the order of the lines. A client without lines leaves
-/// its seat with the first. Even if memory is missing, the first has all seats again, and each client has played a front of
-/// its lines.
+/// Plays these lines in one step. If several clients have lines, those with at least `heavy` of them make their calls each on
+/// a thread of its own. Beside them the others make theirs one after another, in the order of the lines. A client without
+/// lines leaves its seat with the first. Even if memory is missing, the first has all seats again, and each client has
+/// played a front of its lines.
 pub fn play_step<R: Threads + Wait + Sync, G: Gate>(
     rt: &R,
     alloc: Global,
@@ -68,33 +69,10 @@ fn play_lines<R: Threads + Wait + Sync, G: Gate>(
     ensures calls { length calls.new ≡ length calls.old }
 {
     if has_several(lines) && has_heavy(lines, heavy) {
-        play_apart(rt, alloc, lock, first, calls, lines, gate)
+        play_apart(rt, alloc, lock, first, calls, lines, heavy, gate)
     } else {
         play_in_turn(rt, alloc, lock, first, calls, lines, gate)
     }
-}
-
-// Plays these lines, each client on a thread of its own.
-fn play_apart<R: Threads + Wait + Sync, G: Gate>(
-    rt: &R,
-    alloc: Global,
-    lock: &Lock,
-    first: &mut Player,
-    calls: &mut [u64],
-    lines: &[Entry],
-    gate: &G,
-) -> Result<(), NoMemory>
-    requires gathered { IsGathered lock.now first.old.seat }
-    requires clients { (0 < length calls.old) × (length calls.old ≤ length lock.now.base) × (length calls.old < 2 ^ 32) }
-    requires lines { IsTrue (list_all (λ line. nat_lt line.client (length calls.old)) lines.now) }
-    ensures gathered { IsGathered lock.now first.new.seat }
-    ensures played { HasGrown (IsPlayed lines.now result) first.old.seat first.new.seat }
-    ensures calls { length calls.new ≡ length calls.old }
-{
-    let mut players = part_busy(alloc, lock, &mut first.seat, calls, lines)?;
-    play_beside(rt, alloc, lock, first, &mut players, lines, gate);
-    let others = take_in(lock, &mut first.seat, calls, players);
-    both(&first.ended, others)
 }
 
 // Whether the lines are those of several clients.
@@ -153,8 +131,8 @@ pub(crate) fn player_at(seat: Seat, calls: &[u64]) -> Player
     }
 }
 
-// The least client from one number on that has lines, or as many as there are clients if none of them has.
-fn next_busy(lines: &[Entry], from: u32, clients: u32) -> u32
+/// The least client from one number on that has lines, or as many as there are clients if none of them has.
+pub(crate) fn next_busy(lines: &[Entry], from: u32, clients: u32) -> u32
     requires { from ≤ clients }
     ensures { IsNextBusy lines.now from clients result }
 {
@@ -170,8 +148,8 @@ fn next_busy(lines: &[Entry], from: u32, clients: u32) -> u32
     next
 }
 
-// How many clients below a number, the first one left out, have lines.
-fn count_busy(lines: &[Entry], clients: u32) -> usize
+/// How many clients below a number, the first one left out, have lines.
+pub(crate) fn count_busy(lines: &[Entry], clients: u32) -> usize
     requires { 0 < clients }
     ensures { result ≡ busy_below lines.now clients }
 {
@@ -263,8 +241,8 @@ fn play_all<R: Threads + Wait + Sync, G: Gate>(
     );
 }
 
-// Has each player make its calls, on a thread of its own if there are several.
-fn play_each<R: Threads + Wait + Sync, G: Gate>(
+/// Has each player make its calls, on a thread of its own if there are several.
+pub(crate) fn play_each<R: Threads + Wait + Sync, G: Gate>(
     rt: &R,
     alloc: Global,
     lock: &Lock,
