@@ -76,6 +76,10 @@ pub record IsCoherent (run : Stage) (whole : Bool) : Type 0 where
   pub seats : HasAllSeats (given_back run)
   pub ready : whole ≡ true → IsPaused (given_back run)
 
+-- how many entries the history has
+abbrev pub IsCount : Stage → ℕ → Type 0
+IsCount run entries = entries ≡ length run.first.seat.seen
+
 -- whatever came of it, the history goes on, at the same lock
 pub record KeepsSeats (before after : Stage) : Type 0 where
   pub seated : HasAllSeats after

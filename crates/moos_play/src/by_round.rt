@@ -2,7 +2,7 @@
 ghost use Rattle.std.specs.Prelude.{◌≡◌, ◌<◌, ◌≤◌, Ok, true, false, length, option_map, slice_get, IfSome, OnOk};
 ghost use Rattle.moos_play.specs.Plays.{earliest, IsStampOver, left_in, next_stamp};
 ghost use Rattle.moos_play.specs.Steered.{iterations_in};
-ghost use Rattle.moos_play.specs.Runs.{handed, HasAllSeats, HasPlayedOn, MayGoOn, shown_by};
+ghost use Rattle.moos_play.specs.Runs.{handed, HasAllSeats, HasPlayedOn, IsCount, MayGoOn, shown_by};
 
 use crate::helm_client::Iterations;
 use crate::stage::Stage;
@@ -61,12 +61,16 @@ impl<'a> Stage<'a> {
         Ok(())
     }
 
-    /// How many entries the history has.
-    pub(crate) fn count_entries<R: Wait>(&mut self, rt: &R) -> u64
-        requires { HasAllSeats self.old }
+    /// How many entries the history has. It takes no turn if that is known.
+    pub(crate) fn count_entries<R: Wait>(&mut self, rt: &R, known: Option<u64>) -> u64
+        requires seats { HasAllSeats self.old }
+        requires known { IfSome known (IsCount self.old) }
         ensures count { result ≡ length self.old.first.seat.seen }
         ensures same { self.new ≡ self.old }
     {
+        if let Some(entries) = known {
+            return entries;
+        }
         let first = &mut self.first.seat;
         let held = self.lock.take(rt, first);
         let count = held.value().entries();

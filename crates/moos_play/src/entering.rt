@@ -34,6 +34,7 @@ impl<'a> Play<'a> {
         ensures next { next_stamp self.new ≡ next_stamp self.old }
         ensures iterations { iterations_made self.new ≡ iterations_made self.old }
     {
+        self.entries = None;
         let run = &mut self.run;
         let first = &mut run.first.seat;
         call_alone(rt, alloc, &run.lock, first, client, stamp, call)

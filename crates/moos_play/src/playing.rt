@@ -25,6 +25,8 @@ pub struct Play<'a> {
     pub(crate) run: Stage<'a>,
     // Whether each round so far was played to its end.
     pub(crate) whole: bool,
+    // How many entries the history has, if that was seen since the last call. It spares a round a turn at the lock.
+    pub(crate) entries: Option<u64>,
 }
 
 impl<'a> Model for Play<'a> {
@@ -36,11 +38,12 @@ impl<'a> Model for Play<'a> {
 
     ghost coded = { Prim.hlevel (codes, cond.the_row.coded) };
 
-    ghost use Rattle.moos_play.specs.Runs.{IsCoherent, playing_of};
+    ghost use Rattle.std.specs.Prelude.{IfSome};
+    ghost use Rattle.moos_play.specs.Runs.{IsCoherent, IsCount, playing_of};
 
     ghost view = { λ play. playing_of play.run play.whole };
 
-    ghost invariant = { λ play. IsCoherent play.run play.whole };
+    ghost invariant = { λ play. IsCoherent play.run play.whole × IfSome play.entries (IsCount play.run) };
 }
 
 impl<'a> Play<'a> {
@@ -67,7 +70,11 @@ impl<'a> Play<'a> {
     {
         let mut run = Stage::make(alloc, script, helm, &further, order)?;
         run.open(rt, alloc, gate)?;
-        Ok(Play { run, whole: true })
+        Ok(Play {
+            run,
+            whole: true,
+            entries: None,
+        })
     }
 
     /// Plays the next round: in order Stamp the lines and the tick of the next stamp, and in order Race everything. None
@@ -95,8 +102,9 @@ impl<'a> Play<'a> {
         ensures over { IfOk result (λ round. IfNone round (IsPlayedOut self.new)) }
     {
         let stamp = self.run.next_stamp();
-        let from = self.run.count_entries(rt);
+        let from = self.run.count_entries(rt, self.entries);
         self.whole = false;
+        self.entries = None;
         if !self.run.play_stamp(rt, alloc, stamp, workers, gate)? {
             self.whole = true;
             return Ok(None);
@@ -130,6 +138,7 @@ impl<'a> Play<'a> {
         requires history { held.value.history ≡ history_in self.old }
         ensures { self.new ≡ returned self.old }
     {
+        self.entries = Some(held.value().entries());
         let run = &mut self.run;
         run.lock.give_back(&mut run.first.seat, held);
     }
@@ -158,7 +167,11 @@ impl<'a> Play<'a> {
         ensures history { result.db.history ≡ history_in self.entry }
         ensures iterations { result.iterations ≡ [] }
     {
-        let Play { run, whole: _ } = self;
+        let Play {
+            run,
+            whole: _,
+            entries: _,
+        } = self;
         let Ran { db, iterations: _ } = run.close(alloc);
         let iterations = List::new(alloc);
         Ran { db, iterations }

@@ -65,7 +65,7 @@ pub fn play<R: Threads + Wait + Sync, G: Gate>(
         IfOk result (λ ran. ran.iterations ≡ iterations helm script.now.stop (heard_of ran.db.names (helm_number script.now) ran.db.history)) }
 {
     let play = Play::make(rt, alloc, script, helm, List::new(alloc), order, gate)?;
-    let Play { mut run, whole: _ } = play;
+    let Play { mut run, .. } = play;
     let played = play_out(rt, alloc, &mut run, workers, gate);
     let ran = run.close(alloc);
     played?;

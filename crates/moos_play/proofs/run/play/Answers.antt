@@ -14,7 +14,7 @@ make-requires-clause-few g c κs lives = few_names c.args.script.now c.args.helm
 
 pub play_out-played-requires : goal.play_out-played-requires
 play_out-played-requires g c =
-    (c.type_bounds.sync-R, (c.type_bounds.sync-G, record { at_play = (is_ready c.play.inside.run c.play.inside.whole c.in_ok-play.play c.play.view_is c.play.invariant c.in_ok-play.ensures.between).at_play; few = c.requires.workers }))
+    (c.type_bounds.sync-R, (c.type_bounds.sync-G, record { at_play = (is_ready c.play.inside.run c.play.inside.whole c.in_ok-play.play c.play.view_is c.play.invariant.0 c.in_ok-play.ensures.between).at_play; few = c.requires.workers }))
 
 pub returns-clause-names : goal.returns-clause-names
 returns-clause-names g c =
@@ -35,7 +35,7 @@ returns-clause-iterations g c =
     let made = c.in_ok-play.ensures in
     let out = c.in_ok-played.ensures in
     let run = c.play_out-played.new.run in
-    let ready = is_ready c.play.inside.run c.play.inside.whole c.in_ok-play.play c.play.view_is c.play.invariant made.between in
+    let ready = is_ready c.play.inside.run c.play.inside.whole c.in_ok-play.play c.play.view_is c.play.invariant.0 made.between in
     let none = none_ticked c.play.inside.run ready (subst (λ (play : Playing). history_in play ≡ opening (helm_in play)) (sym c.play.view_is) made.begun) in
     let all : length (iterations_in run.helm_client) ≡ ticks_in run.helm_client = omega (arith, out.told, none, ap length ready.told) in
     c.close-ran.ensures.iterations ∙ made_kept run.lock.base _ run.first.seat.seen run.helm_client out.at_play.under.steered all

@@ -4,7 +4,7 @@ use Rattle.moos_play.proofs.Showing.{has_seats}
 use Rattle.moos_play.proofs.playing.Play.end.Goals as goal
 
 pub close-db-requires : goal.close-db-requires
-close-db-requires c = has_seats c.self.inside.run c.self.inside.whole c.args.self c.self.view_is c.self.invariant c.requires
+close-db-requires c = has_seats c.self.inside.run c.self.inside.whole c.args.self c.self.view_is c.self.invariant.0 c.requires
 
 pub returns-clause-names : goal.returns-clause-names
 returns-clause-names c = c.close-db.ensures.names ∙ ap clients_in c.self.view_is

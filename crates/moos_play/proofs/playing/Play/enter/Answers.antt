@@ -9,10 +9,10 @@ use Rattle.moos_play.proofs.Showing.{is_ready, seated_at, sound_ready}
 use Rattle.moos_play.proofs.playing.Play.enter.Goals as goal
 
 pub call_alone-requires-clause-gathered : goal.call_alone-requires-clause-gathered
-call_alone-requires-clause-gathered g c = (is_ready c.self.inside.run c.self.inside.whole c.args.self.now c.self.view_is c.self.invariant c.requires.between).at_play.under.gathered
+call_alone-requires-clause-gathered g c = (is_ready c.self.inside.run c.self.inside.whole c.args.self.now c.self.view_is c.self.invariant.0 c.requires.between).at_play.under.gathered
 
 pub call_alone-requires-clause-whole : goal.call_alone-requires-clause-whole
-call_alone-requires-clause-whole g c = (is_ready c.self.inside.run c.self.inside.whole c.args.self.now c.self.view_is c.self.invariant c.requires.between).at_play.under.whole
+call_alone-requires-clause-whole g c = (is_ready c.self.inside.run c.self.inside.whole c.args.self.now c.self.view_is c.self.invariant.0 c.requires.between).at_play.under.whole
 
 pub call_alone-requires-clause-client : goal.call_alone-requires-clause-client
 call_alone-requires-clause-client g c = subst (λ (play : Playing). c.args.client < length (clients_in play)) (sym c.self.view_is) c.requires.further.named
@@ -56,14 +56,16 @@ pub returns-clause-iterations : goal.returns-clause-iterations
 returns-clause-iterations g c =
     let run = c.self.inside.run in
     let w = c.self.inside.whole in
-    entered_made c.call_alone.result run w (entry_of c.args.client c.args.stamp c.args.call) c.call_alone.new.first (is_ready run w c.args.self.now c.self.view_is c.self.invariant c.requires.between)
+    entered_made c.call_alone.result run w (entry_of c.args.client c.args.stamp c.args.call) c.call_alone.new.first (is_ready run w c.args.self.now c.self.view_is c.self.invariant.0 c.requires.between)
     (subst (λ play. IsFurther play c.args.client) (sym c.self.view_is) c.requires.further) c.call_alone.ensures.added
     ∙ ap iterations_made c.self.view_is
 
 pub invariant_of-self : goal.invariant_of-self
 invariant_of-self g c =
     let run = c.self.inside.run in
-    let w = c.self.inside.whole in
-    sound_ready (seated_at run c.call_alone.new.first) w
-    (entered_between c.call_alone.result run w (entry_of c.args.client c.args.stamp c.args.call) c.call_alone.new.first (is_ready run w c.args.self.now c.self.view_is c.self.invariant c.requires.between)
-    (subst (λ play. IsFurther play c.args.client) (sym c.self.view_is) c.requires.further) c.call_alone.ensures.gathered c.call_alone.ensures.whole c.call_alone.ensures.added)
+    let w = c.self.inside.whole in (
+      sound_ready (seated_at run c.call_alone.new.first) w
+          (entered_between c.call_alone.result run w (entry_of c.args.client c.args.stamp c.args.call) c.call_alone.new.first (is_ready run w c.args.self.now c.self.view_is c.self.invariant.0 c.requires.between)
+          (subst (λ play. IsFurther play c.args.client) (sym c.self.view_is) c.requires.further) c.call_alone.ensures.gathered c.call_alone.ensures.whole c.call_alone.ensures.added),
+      tt,
+    )

@@ -12,31 +12,31 @@ pub returns-clause-front : goal.returns-clause-front
 returns-clause-front c =
     let run = c.self.inside.run in
     let whole = c.self.inside.whole in
-    subst HasCompletion c.self.view_is (has_completion run whole (is_ready run whole c.args.self.now c.self.view_is c.self.invariant c.requires))
+    subst HasCompletion c.self.view_is (has_completion run whole (is_ready run whole c.args.self.now c.self.view_is c.self.invariant.0 c.requires))
 
 pub returns-clause-steered : goal.returns-clause-steered
 returns-clause-steered c =
     let run = c.self.inside.run in
     let whole = c.self.inside.whole in
-    subst HasSteeredSoFar c.self.view_is (has_steered run whole (is_ready run whole c.args.self.now c.self.view_is c.self.invariant c.requires))
+    subst HasSteeredSoFar c.self.view_is (has_steered run whole (is_ready run whole c.args.self.now c.self.view_is c.self.invariant.0 c.requires))
 
 pub returns-clause-so_far : goal.returns-clause-so_far
 returns-clause-so_far c =
-    subst (λ (play : Playing). IsLawfulSoFar (schedule_in play) (history_in play)) c.self.view_is (is_ready c.self.inside.run c.self.inside.whole c.args.self.now c.self.view_is c.self.invariant c.requires).at_play.under.played.so_far
+    subst (λ (play : Playing). IsLawfulSoFar (schedule_in play) (history_in play)) c.self.view_is (is_ready c.self.inside.run c.self.inside.whole c.args.self.now c.self.view_is c.self.invariant.0 c.requires).at_play.under.played.so_far
 
 pub returns-clause-valid : goal.returns-clause-valid
 returns-clause-valid c =
-    subst (λ (play : Playing). IsValid (script_played play)) c.self.view_is (is_ready c.self.inside.run c.self.inside.whole c.args.self.now c.self.view_is c.self.invariant c.requires).at_play.valid
+    subst (λ (play : Playing). IsValid (script_played play)) c.self.view_is (is_ready c.self.inside.run c.self.inside.whole c.args.self.now c.self.view_is c.self.invariant.0 c.requires).at_play.valid
 
 pub returns-clause-helm : goal.returns-clause-helm
 returns-clause-helm c =
     let run = c.self.inside.run in
     let whole = c.self.inside.whole in
-    subst (λ (play : Playing). IfSome (helm_in play) (IsRunFor (script_played play) (length (iterations_made play)))) c.self.view_is (runs_for run whole (is_ready run whole c.args.self.now c.self.view_is c.self.invariant c.requires))
+    subst (λ (play : Playing). IfSome (helm_in play) (IsRunFor (script_played play) (length (iterations_made play)))) c.self.view_is (runs_for run whole (is_ready run whole c.args.self.now c.self.view_is c.self.invariant.0 c.requires))
 
 pub returns-clause-left : goal.returns-clause-left
 returns-clause-left c =
     let run = c.self.inside.run in
     let whole = c.self.inside.whole in
     subst (λ (play : Playing). (so : IsLawfulSoFar (schedule_in play) (history_in play)) (n : ℕ) → n < known_clients_in play → IsLeft play (so.left n)) c.self.view_is
-    (is_left run whole (is_ready run whole c.args.self.now c.self.view_is c.self.invariant c.requires))
+    (is_left run whole (is_ready run whole c.args.self.now c.self.view_is c.self.invariant.0 c.requires))

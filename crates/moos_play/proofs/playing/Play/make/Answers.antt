@@ -23,11 +23,13 @@ invariant_of-result g c =
     let before = c.in_ok-run.run' in
     let after = c.open.new.self in
     let same = sym made.of in
-    let run : Stage = record before { first = record before.first { seat = after.first.seat }; helm_client = after.helm_client } in
-    subst (λ run. IsCoherent run true) (sym c.open.ensures.rest) (sound_ready run true (play_made c.args.helm c.args.further run
-    (subst IsValid same c.requires.valid)
-    (c.in_ok-open.ensures.same ∙ made.steered ∙ ap (λ (s : Script). option_map (helm_setup_with s) c.args.helm) same)
-    (made.named ∙ ap (λ (s : Script). names_with s c.args.helm ++ c.args.further) same)
-    (subst (λ lock. HasOpened lock after.helm_client after.first.seat) (ap (λ (r : Stage). r.lock) c.open.ensures.rest) c.in_ok-open.ensures.opened)
-    (made.calls ∙ ap (λ (s : Script). length s.names) same)
-    made.unplayed))
+    let run : Stage = record before { first = record before.first { seat = after.first.seat }; helm_client = after.helm_client } in (
+      subst (λ run. IsCoherent run true) (sym c.open.ensures.rest) (sound_ready run true (play_made c.args.helm c.args.further run
+          (subst IsValid same c.requires.valid)
+          (c.in_ok-open.ensures.same ∙ made.steered ∙ ap (λ (s : Script). option_map (helm_setup_with s) c.args.helm) same)
+          (made.named ∙ ap (λ (s : Script). names_with s c.args.helm ++ c.args.further) same)
+          (subst (λ lock. HasOpened lock after.helm_client after.first.seat) (ap (λ (r : Stage). r.lock) c.open.ensures.rest) c.in_ok-open.ensures.opened)
+          (made.calls ∙ ap (λ (s : Script). length s.names) same)
+          made.unplayed)),
+      tt,
+    )

@@ -1,15 +1,17 @@
-use Rattle.std.proofs.Common.{None, ◌∙◌, ap, subst, sym}
+use Rattle.std.proofs.Common.{None, ◌∙◌, ap, length, subst, sym}
+use Rattle.moos_client.specs.Calls.{SeatState}
+use Rattle.moos_db.specs.Database.{Database}
 use Rattle.moos_play.specs.Plays.{clients_in, history_in, IsLentAs, returned}
 use Rattle.moos_play.specs.Runs.{playing_of}
 use Rattle.moos_play.proofs.Showing.{lent_of, seated_at, sound_lent, was_lent}
 use Rattle.moos_play.proofs.playing.Play.put_back.Goals as goal
 
 pub give_back-requires-clause-lock : goal.give_back-requires-clause-lock
-give_back-requires-clause-lock c = lent_of c.self.inside.run c.self.inside.whole c.self.invariant
+give_back-requires-clause-lock c = lent_of c.self.inside.run c.self.inside.whole c.self.invariant.0
 
 pub give_back-requires-clause-held : goal.give_back-requires-clause-held
 give_back-requires-clause-held c =
-    was_lent c.self.inside.run c.self.inside.whole c.args.held.number c.args.held.start.value.history c.self.invariant (subst (λ play. IsLentAs play c.args.held.number c.args.held.start.value.history) (sym c.self.view_is) c.requires.lent)
+    was_lent c.self.inside.run c.self.inside.whole c.args.held.number c.args.held.start.value.history c.self.invariant.0 (subst (λ play. IsLentAs play c.args.held.number c.args.held.start.value.history) (sym c.self.view_is) c.requires.lent)
 
 pub give_back-requires-clause-base : goal.give_back-requires-clause-base
 give_back-requires-clause-base c = c.requires.names ∙ sym (ap clients_in c.self.view_is)
@@ -19,8 +21,10 @@ give_back-requires-clause-same c = c.requires.history ∙ sym c.requires.lent.sa
 
 pub invariant_of-self : goal.invariant_of-self
 invariant_of-self c =
-    let run = c.self.inside.run in
-    sound_lent run c.self.inside.whole c.give_back.new.pass None (c.give_back.ensures ∙ ap (λ seen. record run.first.seat { seen = seen; turn = None }) (c.requires.history ∙ sym (ap history_in c.self.view_is))) c.self.invariant
+    let run = c.self.inside.run in (
+      sound_lent run c.self.inside.whole c.give_back.new.pass None (c.give_back.ensures ∙ ap (λ seen. record run.first.seat { seen = seen; turn = None }) (c.requires.history ∙ sym (ap history_in c.self.view_is))) c.self.invariant.0,
+      c.entries.ensures ∙ ap (λ (db : Database). length db.history) c.value.ensures ∙ ap (λ (seat : SeatState). length seat.seen) (sym c.give_back.ensures),
+    )
 
 pub returns : goal.returns
 returns c =

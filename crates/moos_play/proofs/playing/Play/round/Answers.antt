@@ -41,7 +41,7 @@ returns-clause-round g c =
     let w = c.self.inside.whole in
     let after = c.play_stamp.new.self in
     let stamp = c.next_stamp-stamp.result in
-    let ready = is_ready run w c.args.self.now c.self.view_is c.self.invariant c.requires.between in
+    let ready = is_ready run w c.args.self.now c.self.view_is c.self.invariant.0 c.requires.between in
     let on = stepped_from c.count_entries-from.ensures.same c.in_ok-play_stamp.ensures.stepped in
     let round : Round = record { stamp = stamp; from = c.count_entries-from.result; iterations = c.hand_out-iterations.result } in
     subst (λ (old : Playing). IsRound old (playing_of c.hand_out-iterations.new.self true) round) c.self.view_is
@@ -59,7 +59,7 @@ returns-clause-turn g c =
     let run = c.self.inside.run in
     let w = c.self.inside.whole in
     let after = c.play_stamp.new.self in
-    let ready = is_ready run w c.args.self.now c.self.view_is c.self.invariant c.requires.between in
+    let ready = is_ready run w c.args.self.now c.self.view_is c.self.invariant.0 c.requires.between in
     let on = stepped_from c.count_entries-from.ensures.same c.in_ok-play_stamp.ensures.stepped in
     let round : Round = record { stamp = c.next_stamp-stamp.result; from = c.count_entries-from.result; iterations = c.hand_out-iterations.result } in
     subst (λ (old : Playing). HasTurn (order_played old) old (playing_of c.hand_out-iterations.new.self true) round) c.self.view_is
@@ -79,7 +79,7 @@ returns-clause-more g c =
     )
 
 pub invariant_of-self-2 : goal.invariant_of-self-2
-invariant_of-self-2 g c = sound_ready c.hand_out-iterations.new.self true (subst IsPaused (sym c.hand_out-iterations.ensures.told) (handed_between c.play_stamp.new.self c.in_ok-play_stamp.ensures.stepped.at_play))
+invariant_of-self-2 g c = (sound_ready c.hand_out-iterations.new.self true (subst IsPaused (sym c.hand_out-iterations.ensures.told) (handed_between c.play_stamp.new.self c.in_ok-play_stamp.ensures.stepped.at_play)), tt)
 
 -- ---- nothing was left
 
@@ -109,14 +109,14 @@ returns-then-not-branch-clause-over g c =
     let run = c.self.inside.run in
     let ended = c.in_ok-play_stamp.ensures.over (search rules) in
     let same = c.count_entries-from.ensures.same in
-    let ready = is_ready run c.self.inside.whole c.args.self.now c.self.view_is c.self.invariant c.requires.between in
+    let ready = is_ready run c.self.inside.whole c.args.self.now c.self.view_is c.self.invariant.0 c.requires.between in
     subst (λ last. IsPlayedOut (playing_of last true)) (sym (ended.1 ∙ same)) (over_now run true ready.at_play (ap (λ run. left_in (shown_by run)) (sym same) ∙ ended.0))
 
 pub invariant_of-self-then-not-branch : goal.invariant_of-self-then-not-branch
 invariant_of-self-then-not-branch g c =
     let ended = c.in_ok-play_stamp.ensures.over (search rules) in
-    let ready = is_ready c.self.inside.run c.self.inside.whole c.args.self.now c.self.view_is c.self.invariant c.requires.between in
-    sound_ready c.play_stamp.new.self true (subst IsPaused (sym (ended.1 ∙ c.count_entries-from.ensures.same)) ready)
+    let ready = is_ready c.self.inside.run c.self.inside.whole c.args.self.now c.self.view_is c.self.invariant.0 c.requires.between in
+    (sound_ready c.play_stamp.new.self true (subst IsPaused (sym (ended.1 ∙ c.count_entries-from.ensures.same)) ready), tt)
 
 -- ---- no memory was left
 
@@ -132,7 +132,7 @@ returns-in_err-play_stamp-clause-same g c =
 
 pub returns-in_err-play_stamp-clause-front : goal.returns-in_err-play_stamp-clause-front
 returns-in_err-play_stamp-clause-front g c =
-    let ready = is_ready c.self.inside.run c.self.inside.whole c.args.self.now c.self.view_is c.self.invariant c.requires.between in
+    let ready = is_ready c.self.inside.run c.self.inside.whole c.args.self.now c.self.view_is c.self.invariant.0 c.requires.between in
     let on = stepped_from c.count_entries-from.ensures.same c.in_err-play_stamp.ensures.stepped in
     err_any _ (completed c.play_stamp.new.self false (subst IsValid (sym on.same.script) ready.at_play.valid).lines on.front)
 
@@ -148,22 +148,25 @@ returns-in_err-play_stamp-clause-stamped g c =
     (subst (λ stamp. AddsAt run.order stamp (known_clients_in (shown_by run)) run.first.seat.seen after.first.seat.seen) c.next_stamp-stamp.ensures on.stamped))
 
 pub invariant_of-self : goal.invariant_of-self
-invariant_of-self g c = sound_of c.play_stamp.new.self false c.in_err-play_stamp.ensures.stepped.seated.seated (λ e. absurd cc)
+invariant_of-self g c = (sound_of c.play_stamp.new.self false c.in_err-play_stamp.ensures.stepped.seated.seated (λ e. absurd cc), tt)
 
 -- ---- what is called
 
 pub next_stamp-stamp-requires : goal.next_stamp-stamp-requires
 next_stamp-stamp-requires g c =
     let run = c.self.inside.run in
-    let ready = is_ready run c.self.inside.whole c.args.self.now c.self.view_is c.self.invariant c.requires.between in
+    let ready = is_ready run c.self.inside.whole c.args.self.now c.self.view_is c.self.invariant.0 c.requires.between in
     some_period run.script.now.stop run.helm_client ready.at_play.period
 
-pub count_entries-from-requires : goal.count_entries-from-requires
-count_entries-from-requires g c = has_seats c.self.inside.run c.self.inside.whole c.args.self.now c.self.view_is c.self.invariant c.requires.between.seated
+pub count_entries-from-requires-clause-seats : goal.count_entries-from-requires-clause-seats
+count_entries-from-requires-clause-seats g c = has_seats c.self.inside.run c.self.inside.whole c.args.self.now c.self.view_is c.self.invariant.0 c.requires.between.seated
+
+pub count_entries-from-requires-clause-known : goal.count_entries-from-requires-clause-known
+count_entries-from-requires-clause-known g c = c.self.invariant.1
 
 pub play_stamp-requires-clause-may : goal.play_stamp-requires-clause-may
 play_stamp-requires-clause-may g c κs lives =
-    let ready = is_ready c.self.inside.run c.self.inside.whole c.args.self.now c.self.view_is c.self.invariant c.requires.between in
+    let ready = is_ready c.self.inside.run c.self.inside.whole c.args.self.now c.self.view_is c.self.invariant.0 c.requires.between in
     let same = sym c.count_entries-from.ensures.same in
     record { at_play = subst IsAtPlay same ready.at_play; few = c.requires.workers }
 
