@@ -13,6 +13,8 @@ use Rattle.helm_core.specs.Ticks.{Tick}
 use Rattle.helm_core.specs.WellFormed.{IsWellFormedPlan, names_told, ValidFilesPlanWell}
 use Rattle.helm_core.specs.Names.{ValidFilesNameOnce}
 use Rattle.helm_core.specs.Worths.{ValidFilesDecideByWorth}
+use Rattle.helm_laws.specs.Files.{OfValidFiles}
+use Rattle.helm_laws.specs.Reliance.{IsReliable}
 use Rattle.moos_jobs.specs.declared.helm_files.HelmFiles.{HelmFiles}
 use Rattle.moos_jobs.specs.HelmFiles.{setup_of, helm_setup_by}
 use Rattle.moos_jobs.specs.Loading.{AreValidFiles}
@@ -36,13 +38,14 @@ pub record AreGoodFiles (files : HelmFiles) : Type 0 where
   pub steers : SteersWell (plan_made files.mission files.file)
 
 -- the files that were read for a helm are such
-pub good_files : (files : HelmFiles) → ValidFilesPlanWell → ValidFilesDecideByWorth → ValidFilesNameOnce → AreValidFiles files → AreGoodFiles files
-good_files files formed worth names valid = record {
+pub good_files : (files : HelmFiles) → ValidFilesPlanWell → ValidFilesDecideByWorth → ValidFilesNameOnce → OfValidFiles IsReliable → AreValidFiles files → AreGoodFiles files
+good_files files formed worth names reliable valid = record {
   file = valid.file;
   formed = formed files.mission files.file valid.mission valid.file;
   steers = record {
     worth = worth files.mission files.file valid.mission valid.file valid.served;
     once = names files.mission files.file valid.file;
+    reliable = reliable files.mission files.file valid.mission valid.file valid.served;
   };
 }
 

@@ -6,6 +6,8 @@ use Rattle.helm_core.specs.Helms.{plan_of}
 use Rattle.helm_core.specs.Plans.{plan_made}
 use Rattle.helm_core.specs.Names.{ValidFilesNameOnce}
 use Rattle.helm_core.specs.Worths.{ValidFilesDecideByWorth}
+use Rattle.helm_laws.specs.Files.{OfValidFiles}
+use Rattle.helm_laws.specs.Reliance.{IsReliable}
 use Rattle.mission_maker.specs.Generated.{generated_script}
 use Rattle.mission_maker.specs.Stamps.{rise_within}
 use Rattle.mission_maker.specs.Survey.{generated_behaviors, generated_mission}
@@ -76,9 +78,9 @@ was_played_out number script files run play names history counted is rises missi
         order played helm (over.alone alone, over.iterations)
 
 -- its summary is that of the only lawful history
-pub summarized : (number : ℕ) (names : List (List ℕ)) (history : History) (counted : IterationCounts) → RisingIsSole → ValidFilesDecideByWorth → ValidFilesNameOnce → WasGenerated number names history counted
+pub summarized : (number : ℕ) (names : List (List ℕ)) (history : History) (counted : IterationCounts) → RisingIsSole → ValidFilesDecideByWorth → ValidFilesNameOnce → OfValidFiles IsReliable → WasGenerated number names history counted
     → IsSummary number (counts_text number (counts_of names history counted))
-summarized number names history counted tell worth names_once was = record {
+summarized number names history counted tell worth names_once reliable was = record {
   files = was.files;
   mission = was.mission;
   behaviors = was.behaviors;
@@ -91,5 +93,6 @@ summarized number names history counted tell worth names_once was = record {
   steers = record {
     worth = worth was.files.mission was.files.file was.valid.mission was.valid.file was.valid.served;
     once = names_once was.files.mission was.files.file was.valid.file;
+    reliable = reliable was.files.mission was.files.file was.valid.mission was.valid.file was.valid.served;
   };
 }

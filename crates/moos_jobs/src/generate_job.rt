@@ -17,6 +17,7 @@ use crate::sole_history::sole_history_law;
 use crate::summary::summary;
 use command_line::{Status, written};
 use helm_core::{Helm, names_law, worth_law};
+use helm_laws::reliable_law;
 use mission_maker::{make_behaviors, make_mission, make_script};
 use moos_db::Db;
 use moos_io::{Gate, Sink};
@@ -49,6 +50,7 @@ pub fn generate<R: Threads + Wait + Sync, K: Sink, G: Gate>(
             sole_history_law();
             worth_law();
             names_law();
+            reliable_law();
             written(
                 Status::Done,
                 summary(number, &counted.db, &counted.iterations, out),

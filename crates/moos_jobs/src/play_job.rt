@@ -12,6 +12,7 @@ use crate::helm_files::{FittedHelm, HelmFiles, fit_helm, load_helm};
 use crate::play_telling::play_rounds;
 use command_line::{FileKind, Status, load, refused, unloaded};
 use helm_core::{names_law, plan_law, worth_law};
+use helm_laws::reliable_law;
 use moos_files::Folder;
 use moos_io::{Gate, Sink};
 use moos_play::Order;
@@ -105,6 +106,7 @@ fn play_helm<R: Threads + Wait + Sync, K: Sink, G: Gate>(
     plan_law();
     worth_law();
     names_law();
+    reliable_law();
     report_law();
     play_rounds(
         rt,

@@ -15,6 +15,7 @@ use crate::simulate_telling::sail;
 use command_line::{FileKind, Status, load, refused, unloaded};
 use contact_avoid::Ranges;
 use helm_core::{names_law, plan_law, worth_law};
+use helm_laws::reliable_law;
 use moos_files::Folder;
 use moos_io::{Gate, Sink};
 use moos_post::Txt;
@@ -196,6 +197,7 @@ fn sail_helm<R: Threads + Wait + Sync, K: Sink, G: Gate>(
     plan_law();
     worth_law();
     names_law();
+    reliable_law();
     posts_law();
     report_law();
     contacts_law();

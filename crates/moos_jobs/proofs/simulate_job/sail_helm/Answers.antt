@@ -15,7 +15,7 @@ returns g c =
       thrust = c.posts_law.ensures.thrust c.args.gear.craft c.allowed_law.ensures;
       hull = c.posts_law.ensures.hull c.args.gear.craft c.allowed_law.ensures;
     } in
-    let good : AreGoodFiles c.args.files = good_files c.args.files c.plan_law.ensures c.worth_law.ensures c.names_law.ensures.once c.requires.files in
+    let good : AreGoodFiles c.args.files = good_files c.args.files c.plan_law.ensures c.worth_law.ensures c.names_law.ensures.once c.reliable_law.ensures c.requires.files in
     ends_told simulate_outcomes task (IsVoyage task) (IsFrontOfVoyage task) (λ text voyage. voyage) (λ text front. front) _ c.sail.result
     (c.sail.ensures task (record {
       same_script = refl;
