@@ -1,0 +1,4 @@
+pub mod Both
+pub mod Examples
+pub mod Nexts
+pub mod Verdicts
