@@ -1,0 +1,11 @@
+pub mod Keeping
+pub mod Erasing
+pub mod Merged
+pub mod Parting
+pub mod Cutting
+pub mod Ticking
+pub mod Steered
+pub mod Asking
+pub mod Calming
+pub mod Ordering
+pub mod Playing

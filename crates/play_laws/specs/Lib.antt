@@ -1,0 +1,4 @@
+pub mod Parts
+pub mod Heard
+pub mod Calm
+pub mod Ordered
