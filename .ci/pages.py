@@ -1,6 +1,7 @@
 """The pages that `.ci/definitions` prints."""
 import re
 import sys
+import textwrap
 
 from reading import WORD
 from workspace import JOBS, PARTING, ROOT, Workspace
@@ -8,8 +9,8 @@ from workspace import JOBS, PARTING, ROOT, Workspace
 CLAUSE = re.compile(r"^ +(?:requires|ensures)\b.*\n(?:^ {6,}.*\n)*", re.M)
 MARK = "°"
 
-
-# The two traits that the signature of `run` names, each with its crate.
+# The functions whose contracts are the theorem, each with its crate; and the two traits that the signature of `run` names.
+FUNCTIONS = {"run": "moos_jobs", "run_law": "moos_jobs", "run_whole": "moos_top"}
 TRAITS = {"Folder": "moos_files", "Sink": "moos_io"}
 
 
@@ -18,12 +19,12 @@ class Top:
 
     def __init__(self, space):
         self.space = space
-        self.source = next(source for source in space.sources["moos_jobs"] if "\npub fn run<" in source.text)
-        self.contracts = {function: contract_of(function, self.source.text) for function in ("run", "run_law")}
+        self.sources = {function: source_of(space, crate, function) for function, crate in FUNCTIONS.items()}
+        self.contracts = {function: contract_of(function, source.text) for function, source in self.sources.items()}
         self.traits = {name: trait_of(space.types[crate, name]) for name, crate in TRAITS.items()}
         self.roots = [("type", "command_line", "Words"), ("type", "command_line", "Status")]
-        for text in self.contracts.values():
-            self.roots += space.spoken_of(self.source, WORD.findall("".join(CLAUSE.findall(text))))
+        for function, text in self.contracts.items():
+            self.roots += space.spoken_of(self.sources[function], WORD.findall("".join(CLAUSE.findall(text))))
         for name, text in self.traits.items():
             self.roots += space.spoken_of(space.types[TRAITS[name], name].source, WORD.findall(re.sub("//.*", "", text)))
         self.seen = space.reached(self.roots)
@@ -48,9 +49,13 @@ class Top:
         return {at for at, kind in kinds.items() if kind in ("struct", "enum") or kind == "type" and at in self.roots}
 
 
+def source_of(space, crate, function):
+    return next(source for source in space.sources[crate] if re.search(rf"^(?:pub )?fn {function}\b", source.text, re.M))
+
+
 def contract_of(function, text):
     """The signature of a function with the comment above it and its contract, as they stand."""
-    found = re.search(rf"^((?:///[^\n]*\n)*)(?:#[^\n]*\n)*(pub fn {function}\b.*?)^{{", text, re.M | re.S)
+    found = re.search(rf"^((?://[^\n]*\n)*)(?:#[^\n]*\n)*((?:pub )?fn {function}\b.*?)^{{", text, re.M | re.S)
     return found.group(1) + found.group(2)
 
 
@@ -101,9 +106,18 @@ def print_file(space, top, crate, file, listed):
     for at, it in listed.items():
         if not it.comment:
             print(f"crates/{crate}/specs/{file}.antt: no comment above {it.name}", file=sys.stderr)
-        length = f" ({len(it.lines)}){top.mark_of(at, listed)}" if top else ""
-        print(f"- `{it.name}`{length}: {it.comment}")
+    if not top:
+        for it in listed.values():
+            print(f"- `{it.name}`: {it.comment}")
+    else:
+        print("```text\n" + "\n\n".join(definition_text(it, top.mark_of(at, listed)) for at, it in listed.items()) + "\n```")
     print_later(space, listed)
+
+
+def definition_text(it, mark):
+    """A definition as it stands, with the comment above it."""
+    comment = textwrap.wrap(f"{mark} {it.comment}".strip(), 130, initial_indent="-- ", subsequent_indent="-- ", break_on_hyphens=False)
+    return "\n".join([*comment, *it.lines])
 
 
 def print_later(space, listed):
@@ -185,7 +199,7 @@ def print_kit(top):
 
 
 def counted_in(top):
-    """What the page's head counts and names."""
+    """How many definitions, lines, types and constants the contracts rest on, and how many of them `play` needs."""
     listed = top.definitions(top.seen)
     played = top.definitions(top.of_job["play"])
     return {
@@ -212,17 +226,25 @@ the crate's `specs/`. `.ci/definitions` makes this page from the comments in the
 def print_run():
     space = Workspace()
     top = Top(space)
-    head = (ROOT / ".ci" / "trusted_head.md").read_text().rstrip()
+    head = (ROOT / ".ci" / "definitions_head.md").read_text().rstrip()
     for name, text in counted_in(top).items():
         head = head.replace(f"{{{name}}}", text)
-    print(head)
-    for function, text in top.contracts.items():
-        print(f"\nThe contract of `{function}`, in {top.source.path.relative_to(ROOT)}:\n\n```text\n{text.rstrip()}\n```")
-    for name, text in top.traits.items():
-        path = space.types[TRAITS[name], name].source.path.relative_to(ROOT)
-        print(f"\nThe trait `{name}`, in {path}:\n\n```text\n{text}\n```")
+    print(f"{head}\n\n{contracts_text(top)}\n\n{traits_text(top)}")
     print_definitions(space, top)
     print_kit(top)
+
+
+def contracts_text(top):
+    """The contracts of the top call, as they stand."""
+    paths = {function: source.path.relative_to(ROOT) for function, source in top.sources.items()}
+    parts = [f"The contract of `{function}`, in {paths[function]}:\n\n```text\n{text.rstrip()}\n```" for function, text in top.contracts.items()]
+    return "\n\n".join(parts)
+
+
+def traits_text(top):
+    """The traits that the signature of the top call names, as they stand."""
+    paths = {name: top.space.types[crate, name].source.path.relative_to(ROOT) for name, crate in TRAITS.items()}
+    return "\n\n".join(f"The trait `{name}`, in {paths[name]}:\n\n```text\n{text}\n```" for name, text in top.traits.items())
 
 
 def print_unreached():
