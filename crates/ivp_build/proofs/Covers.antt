@@ -1,9 +1,9 @@
 -- The boxes of one size: each point of the domain lies in one of them, and which number that has. So the pieces on them are a function.
-use Rattle.std.proofs.Common.{◌≡◌, ℕ, zero, suc, true, false, ◌+◌, ◌-◌, ◌*◌, ◌/◌, ◌%◌, ◌^◌, ◌<◌, ◌≤◌, ◌⊎◌, inl, inr, min, ℤ, Some, Err, List, [], ◌∷◌, ◌++◌, length, map, take, get_or, refl, sym, subst, ap, ◌∙◌, arith}
+use Rattle.std.proofs.Common.{◌≡◌, ℕ, zero, suc, true, false, ◌+◌, ◌-◌, ◌*◌, ◌/◌, ◌%◌, ◌^◌, ◌<◌, ◌≤◌, ◌⊎◌, inl, inr, min, ℤ, Some, List, [], ◌∷◌, ◌++◌, length, map, take, get_or, refl, sym, subst, ap, ◌∙◌, arith}
 use Rattle.std.specs.Option.{option_map}
 use Rattle.std.specs.Prelude.{slice_get, slice_index}
 use Rattle.std.proofs.Math.Nat.{div-mul-le_self, lt-div-mul-add}
-use Rattle.std.proofs.lemmas.Bool.{both_ways, false_from_ne_true}
+use Rattle.std.proofs.lemmas.Bool.{false_from_ne_true}
 use Rattle.std.proofs.lemmas.List.{length-map, map-append, take_more}
 use Rattle.std.proofs.lemmas.Nat.{div-mul-add, le-div}
 use Rattle.std.proofs.lemmas.Option.{get_or_from_slice_get, slice_get-map, slice_get_within}
@@ -14,15 +14,11 @@ use Rattle.ivp_domain.specs.Boxes.{has_point, point_from, points_in, volume_of}
 use Rattle.ivp_domain.specs.Domains.{is_domain, is_point, size_on, whole}
 use Rattle.ivp_domain.proofs.BoxLemmas.{length-points_in, point_listed}
 use Rattle.ivp_domain.proofs.Sizes.{few_on, positive}
-use Rattle.ivp_func.specs.declared.func.FuncFault.{FuncFault}
-use Rattle.ivp_func.specs.declared.func.FuncFault.TheVariants.{TooMany, NotPartition, ValueOut, NoMemory}
 use Rattle.ivp_func.specs.declared.piece.Piece.{Piece}
-use Rattle.ivp_func.specs.Functions.{HasValues, IsPartition}
-use Rattle.ivp_func.specs.Making.{MadeFunction}
+use Rattle.ivp_func.specs.Functions.{HasValues, IsFunction, IsPartition}
 use Rattle.ivp_func.specs.Pieces.{are_pieces_of, is_box_of, is_piece_of, is_value, piece_has, value_at}
 use Rattle.ivp_func.proofs.Counting.{count_positive, no_two, value_at-only}
 use Rattle.ivp_func.proofs.Facts.{box_parts, has_point-from, passes_each, place_in}
-use Rattle.ivp_build.specs.Faults.{IsMemory}
 use Rattle.ivp_build.specs.Sampled.{AreSampled, IsSampled, all_runs, box_of, box_of_runs, boxes_of, low_corner, runs_of, sampled_piece, sampled_slopes, uniform_at, uniform_pieces}
 use Rattle.ivp_build.proofs.Samples.{piece_from_value}
 use Rattle.ivp_build.proofs.Sampling.{runs_listed}
@@ -190,12 +186,10 @@ uniform_value axes size gives h p inside =
     value_at-only pieces one.number (sampled_piece gives area) p (boxes_partition axes size pieces h p inside) there (ap (λ (x : BoxN). has_point x p) sampled.here ∙ has)
     ∙ piece_from_value area (gives (low_corner area)) (sampled_slopes gives area) p has
 
--- so of few of them no other fault is found than want of memory
-pub boxes_anyhow : (axes : List Axis) (size : ℕ) (pieces : List Piece) → ArePieces axes size pieces → length pieces ≤ 4096 → (fault : FuncFault) → MadeFunction axes pieces (Err fault) → IsMemory fault
-boxes_anyhow axes size pieces h few TooMany made = omega arith
-boxes_anyhow axes size pieces h few (NotPartition point count) made = made.3 (made.2 ∙ boxes_partition axes size pieces h point made.1)
-boxes_anyhow axes size pieces h few (ValueOut point value) made = both_ways (is_value value) made.4 (ap is_value made.3 ∙ boxes_values axes size pieces h point made.2)
-boxes_anyhow axes size pieces h few NoMemory made = tt
+-- so few of them are a function
+pub boxes_function : (axes : List Axis) (size : ℕ) (pieces : List Piece) → ArePieces axes size pieces → length pieces ≤ 4096 → IsFunction (record { axes = axes; pieces = pieces })
+boxes_function axes size pieces h few =
+    record { domain = h.domain; few = few; pieces = boxes_fit axes size pieces h; partition = boxes_partition axes size pieces h; values = boxes_values axes size pieces h }
 
 -- one piece more
 pushed : {A : Type 0} (xs : List A) (x y : A) (k : ℕ) → slice_get (xs ++ x ∷ []) k ≡ Some y → (slice_get xs k ≡ Some y) ⊎ ((k ≡ length xs) × (Some x ≡ Some y))

@@ -1,11 +1,11 @@
 -- The sum of two functions: it fits, it is a partition, and its values are the sums.
-use Rattle.std.proofs.Common.{◌≡◌, ℕ, zero, suc, Bool, true, false, ◌+◌, ◌*◌, ◌^◌, ◌<◌, ◌≤◌, ℤ, pos, negsuc, neg_ℤ, ◌⊎◌, inl, inr, Some, Option, Err, List, [], ◌∷◌, length, ◌+ℤ◌, ◌*ℤ◌, ◌≤ℤ◌, FitsSigned, to_z, of_z, w64, refl, sym, subst, ap, ◌∙◌, arith}
+use Rattle.std.proofs.Common.{◌≡◌, ℕ, zero, suc, Bool, true, false, ◌+◌, ◌*◌, ◌^◌, ◌<◌, ◌≤◌, ℤ, pos, negsuc, neg_ℤ, ◌⊎◌, inl, inr, Some, Option, List, [], ◌∷◌, length, ◌+ℤ◌, ◌*ℤ◌, ◌≤ℤ◌, FitsSigned, to_z, of_z, w64, refl, sym, subst, ap, ◌∙◌, arith}
 use Rattle.std.proofs.lemmas.List.Folds.{list_all-append}
 use Rattle.std.specs.Option.{option_map}
 use Rattle.std.specs.Ordering.{int_eq}
 use Rattle.std.specs.Prelude.{int_le, min, nat_lt, slice_get, slice_index, ◌&&◌, ◌||◌}
 use Rattle.std.proofs.Math.Nat.{mul-le-mul, mul-le-mul_right}
-use Rattle.std.proofs.lemmas.Bool.{and_from, and_parts, both_ways, lt-ltb, or_cases}
+use Rattle.std.proofs.lemmas.Bool.{and_from, and_parts, lt-ltb, or_cases}
 use Rattle.std.proofs.lemmas.Bool.Decides.{Decides-int_eq, nat_tests}
 use Rattle.std.proofs.lemmas.Int.{ints, fits_signed_from_abs, to_z-of_z}
 use Rattle.ivp_domain.specs.declared.axis.Axis.{Axis}
@@ -16,15 +16,11 @@ use Rattle.ivp_domain.specs.Domains.{is_domain, is_point, size_on}
 use Rattle.ivp_domain.proofs.BoxLemmas.{has_low_corner, has_point-common}
 use Rattle.ivp_domain.proofs.Sizes.{few, places_below}
 use Rattle.ivp_func.specs.declared.piece.Piece.{Piece}
-use Rattle.ivp_func.specs.declared.func.FuncFault.{FuncFault}
-use Rattle.ivp_func.specs.declared.func.FuncFault.TheVariants.{TooMany, NotPartition, ValueOut, NoMemory}
 use Rattle.ivp_func.specs.Functions.{Function, HasValues, IsFunction, IsPartition}
-use Rattle.ivp_func.specs.Making.{MadeFunction}
 use Rattle.ivp_func.specs.Pieces.{are_pieces_of, is_base, is_box_of, is_flat_past, is_piece_of, is_slope, is_small, is_value, piece_value, rise_on, slope_on, value_at, value_in}
 use Rattle.ivp_func.proofs.Counting.{find_some, value_at-only}
 use Rattle.ivp_func.proofs.Facts.{box_parts, passes_at, piece_parts, piece_point}
 use Rattle.ivp_func.proofs.Rises.{base_within, small_parts}
-use Rattle.ivp_build.specs.Faults.{IsMemory}
 use Rattle.ivp_build.specs.Sums.{HaveRoom, couple_at, couple_pieces, is_level_on, met_sums, slope_apart, sum_of_pieces}
 use Rattle.ivp_build.proofs.Meets.{count_at-couple, find-couple, front_apart, front_met}
 
@@ -273,15 +269,13 @@ rows_fit axes (p ∷ ps) qs each =
 pub couple_fits : (axes : List Axis) (ps qs : List Piece) → AreCoupled axes ps qs → are_pieces_of axes (couple_pieces ps qs) ≡ true
 couple_fits axes ps qs h = rows_fit axes ps qs (λ i p one. row_fits axes p qs (λ j q other proper. sum_fits axes ps qs h i j p q one other proper))
 
--- so of few of them no other fault is found than want of memory
-couple_anyhow : (axes : List Axis) (ps qs : List Piece) → AreCoupled axes ps qs → length (couple_pieces ps qs) ≤ 4096 → (fault : FuncFault) → MadeFunction axes (couple_pieces ps qs) (Err fault) → IsMemory fault
-couple_anyhow axes ps qs h few TooMany made = omega arith
-couple_anyhow axes ps qs h few (NotPartition point count) made = made.3 (made.2 ∙ couple_partition axes ps qs h point made.1)
-couple_anyhow axes ps qs h few (ValueOut point value) made = both_ways (is_value value) made.4 (ap is_value made.3 ∙ couple_values axes ps qs h point made.2)
-couple_anyhow axes ps qs h few NoMemory made = tt
-
-pub couple_made : (axes over : List Axis) (ps qs pieces : List Piece) → AreCoupled axes ps qs → over ≡ axes → pieces ≡ couple_pieces ps qs → length pieces ≤ 4096 → (fault : FuncFault) → MadeFunction over pieces (Err fault) → IsMemory fault
-couple_made axes over ps qs pieces h same all few fault made =
-    let on_axes : MadeFunction axes pieces (Err fault) = subst (λ (a : List Axis). MadeFunction a pieces (Err fault)) same made in
-    let on_all : MadeFunction axes (couple_pieces ps qs) (Err fault) = subst (λ (xs : List Piece). MadeFunction axes xs (Err fault)) all on_axes in
-    couple_anyhow axes ps qs h (subst (λ (xs : List Piece). length xs ≤ 4096) all few) fault on_all
+-- so few of them are a function
+pub couple_function : (axes over : List Axis) (ps qs pieces : List Piece) → AreCoupled axes ps qs → over ≡ axes → pieces ≡ couple_pieces ps qs → length pieces ≤ 4096 → IsFunction (record { axes = over; pieces = pieces })
+couple_function axes over ps qs pieces h same all few =
+    subst (λ (a : List Axis). IsFunction (record { axes = a; pieces = pieces })) (sym same) (subst (λ (xs : List Piece). IsFunction (record { axes = axes; pieces = xs })) (sym all) (record {
+      domain = h.domain;
+      few = subst (λ (xs : List Piece). length xs ≤ 4096) all few;
+      pieces = couple_fits axes ps qs h;
+      partition = couple_partition axes ps qs h;
+      values = couple_values axes ps qs h;
+    }))

@@ -9,7 +9,6 @@ ghost use Rattle.ivp_build.specs.Ends.{runs_by};
 ghost use Rattle.ivp_build.specs.Shapes.{IsProfileOf, utility_along};
 
 use crate::ends::ends;
-use crate::fault::no_memory;
 use crate::places::axis_on;
 use crate::profile::Profile;
 use ivp_domain::{BoxN, Domain};
@@ -107,8 +106,6 @@ pub(crate) fn func_along(
 {
     let count = axis_on(domain, axis).points;
     let pieces = pieces_by(alloc, domain, axis, profile, count, &ends(profile, count))?;
-    match Func::make(alloc, domain, pieces) {
-        Ok(func) => Ok(func),
-        Err(fault) => Err(no_memory(fault)),
-    }
+    let func = Func::of_pieces(alloc, domain, pieces)?;
+    Ok(func)
 }

@@ -5,7 +5,6 @@ ghost use Rattle.ivp_domain.specs.Domains.{is_point};
 ghost use Rattle.ivp_func.specs.Pieces.{is_value, value_at};
 ghost use Rattle.ivp_build.specs.Builders.{flat_pieces};
 
-use crate::fault::no_memory;
 use ivp_domain::Domain;
 use ivp_func::{Func, Piece};
 use std::alloc::{AllocError, Global};
@@ -23,8 +22,6 @@ pub fn flat(alloc: Global, domain: &Domain, value: i64) -> Result<Func, AllocErr
     };
     let mut pieces = Vec::new(alloc);
     pieces.push(piece)?;
-    match Func::make(alloc, domain, pieces) {
-        Ok(func) => Ok(func),
-        Err(fault) => Err(no_memory(fault)),
-    }
+    let func = Func::of_pieces(alloc, domain, pieces)?;
+    Ok(func)
 }

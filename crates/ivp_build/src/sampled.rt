@@ -10,7 +10,7 @@ ghost use Rattle.ivp_build.specs.Sampled.{AreSampled, Computes, IsAskedIn, IsRis
 
 use crate::along::rise;
 use crate::boxes::{all_runs, box_of_runs, runs_at};
-use crate::fault::{BuildFault, no_memory};
+use crate::fault::BuildFault;
 use ivp_domain::{BoxN, Domain, Point, volume};
 use ivp_func::{Func, MOST_PIECES, Piece};
 use std::alloc::{AllocError, Global};
@@ -197,11 +197,8 @@ pub fn uniform<F: Fn(&Point) -> i64>(
     let Ok(pieces) = sampled_pieces(alloc, domain, size, utility) else {
         return Err(BuildFault::NoMemory);
     };
-    match Func::make(alloc, domain, pieces) {
+    match Func::of_pieces(alloc, domain, pieces) {
         Ok(func) => Ok(func),
-        Err(fault) => {
-            no_memory(fault);
-            Err(BuildFault::NoMemory)
-        }
+        Err(_) => Err(BuildFault::NoMemory),
     }
 }

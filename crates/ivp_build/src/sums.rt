@@ -7,7 +7,7 @@ ghost use Rattle.ivp_func.specs.Pieces.{is_piece_of, is_small, slope_on, value_a
 ghost use Rattle.ivp_build.specs.Faults.{IsTooMany};
 ghost use Rattle.ivp_build.specs.Sums.{HaveRoom, couple_at, couple_pieces, slope_apart, met_sum, met_sums};
 
-use crate::fault::{BuildFault, no_memory};
+use crate::fault::BuildFault;
 use ivp_domain::meet;
 use ivp_func::{Func, MOST_PIECES, Piece, func_law};
 use std::alloc::Global;
@@ -111,11 +111,8 @@ pub fn couple(alloc: Global, f: &Func, g: &Func) -> Result<Func, BuildFault>
             return Err(fault);
         }
     }
-    match Func::make(alloc, &f.domain(), pieces) {
+    match Func::of_pieces(alloc, &f.domain(), pieces) {
         Ok(func) => Ok(func),
-        Err(fault) => {
-            no_memory(fault);
-            Err(BuildFault::NoMemory)
-        }
+        Err(_) => Err(BuildFault::NoMemory),
     }
 }

@@ -2,6 +2,7 @@
 ghost use Rattle.std.specs.Prelude.{◌≡◌, ℕ, ◌+◌, ◌<◌, ◌≤◌, length, Some, IsTrue, IfSome, IfNone, false, slice_get, IfOk};
 ghost use Rattle.ivp_domain.specs.Domains.{is_point};
 ghost use Rattle.ivp_func.specs.Bodies.{function_in, IsBody};
+ghost use Rattle.ivp_func.specs.Cells.{IsGrid};
 ghost use Rattle.ivp_func.specs.Functions.{IsFunction, IsTop};
 ghost use Rattle.ivp_func.specs.Grids.{cell_box, cells_of, meeting, meets};
 ghost use Rattle.ivp_func.specs.Making.{MadeFunction};
@@ -92,6 +93,34 @@ impl Func {
         let Some(grid) = grid else {
             return Err(FuncFault::NoMemory);
         };
+        match Func::with_grid(alloc, domain, pieces, grid) {
+            Ok(func) => Ok(func),
+            Err(_) => Err(FuncFault::NoMemory),
+        }
+    }
+
+    /// The function of pieces that are known to be one over the domain, so that nothing is judged: at most 4,096 that may be in
+    /// it, each point of the domain in exactly one, each value from 0 to 100,000. It fails only if no memory is left for the
+    /// grid or for the place that equal functions share. The pieces are kept as they are given.
+    pub fn of_pieces(alloc: Global, domain: &Domain, pieces: Vec<Piece>) -> Result<Func, AllocError>
+        requires { IsFunction (record { axes = domain.now; pieces = pieces.items }) }
+        ensures { IfOk result (λ func. func ≡ record { axes = domain.now; pieces = pieces.items }) }
+    {
+        let grid = Grid::make(alloc, domain, &pieces)?;
+        Func::with_grid(alloc, domain, pieces, grid)
+    }
+
+    // The function of pieces that are known to be one, with the grid of these.
+    fn with_grid(
+        alloc: Global,
+        domain: &Domain,
+        pieces: Vec<Piece>,
+        grid: Grid,
+    ) -> Result<Func, AllocError>
+        requires function { IsFunction (record { axes = domain.now; pieces = pieces.items }) }
+        requires grid { IsGrid domain.now pieces.items grid }
+        ensures { IfOk result (λ func. func ≡ record { axes = domain.now; pieces = pieces.items }) }
+    {
         let top = top(domain, &pieces);
         let body = Body {
             domain: *domain,
@@ -99,17 +128,6 @@ impl Func {
             top,
             grid,
         };
-        match Func::of(alloc, body) {
-            Ok(func) => Ok(func),
-            Err(_) => Err(FuncFault::NoMemory),
-        }
-    }
-
-    // The function of a body.
-    fn of(alloc: Global, body: Body) -> Result<Func, AllocError>
-        requires { IsBody body }
-        ensures { IfOk result (λ func. func ≡ function_in body) }
-    {
         let body = Arc::new(alloc, body)?;
         Ok(Func { body })
     }

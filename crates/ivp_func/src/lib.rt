@@ -2,7 +2,8 @@
 //!
 //! The contract for the layer above: a `Func` is a domain and a list of pieces whose boxes
 //! partition the domain, with every value within 0 to 100,000; `value_at` is the value at a point
-//! and `top` the greatest one; `next_meet` finds the pieces that share a point with an area, one after the other; `Func::make` refuses every other list, with the point that shows why.
+//! and `top` the greatest one; `next_meet` finds the pieces that share a point with an area, one after the other; `Func::make` refuses every other list, with the point that shows why,
+//! and `Func::of_pieces` is for those who know that their pieces are a function.
 //!
 //! Reading order: `piece`, `fit`, `cuts`, `kept`, `grid`, `partition`, `values`, `func`, `law`.
 #![tactic(auto)]

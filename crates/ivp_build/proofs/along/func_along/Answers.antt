@@ -1,15 +1,14 @@
-use Rattle.std.proofs.Common.{◌≡◌, ℕ, true, ◌^◌, ◌<◌, ◌≤◌, List, Err, map, length, sym, ◌∙◌, ap, subst, arith}
+use Rattle.std.proofs.Common.{◌≡◌, ℕ, true, ◌^◌, ◌<◌, ◌≤◌, List, map, length, sym, ◌∙◌, ap, subst, arith}
 use Rattle.ivp_domain.specs.declared.axis.Axis.{Axis}
 use Rattle.ivp_domain.proofs.Sizes.{four_axes}
 use Rattle.ivp_func.specs.declared.piece.Piece.{Piece}
-use Rattle.ivp_func.specs.Functions.{Function}
-use Rattle.ivp_func.specs.Making.{MadeFunction}
-use Rattle.ivp_func.specs.Pieces.{are_pieces_of, value_at}
+use Rattle.ivp_func.specs.Functions.{Function, IsFunction}
+use Rattle.ivp_func.specs.Pieces.{value_at}
 use Rattle.ivp_build.specs.declared.profile.Profile.{Profile}
 use Rattle.ivp_build.specs.Builders.{piece_over, pieces_along}
 use Rattle.ivp_build.specs.Ends.{cut_ends, runs_by}
 use Rattle.ivp_build.specs.Shapes.{IsProfileOf}
-use Rattle.ivp_build.proofs.Lawful.{Fits, by_ends, few_pieces, fits, fit, made_anyhow, value}
+use Rattle.ivp_build.proofs.Lawful.{Fits, along_function, by_ends, few_pieces, fits, value}
 use Rattle.ivp_build.proofs.along.func_along.Goals as goal
 use Rattle.ivp_domain.specs.Domains.{is_domain, size_on}
 
@@ -35,37 +34,30 @@ pieces_by-requires-clause-profile c = subst (λ count. IsProfileOf count c.args.
 pub pieces_by-requires-clause-within : goal.pieces_by-requires-clause-within
 pieces_by-requires-clause-within c = c.ends.ensures.within
 
-pub make-requires : goal.make-requires
-make-requires c =
+pub of_pieces-requires : goal.of_pieces-requires
+of_pieces-requires c =
     let h = ready c.args.domain.now c.args.axis c.axis_on-count.result.points c.args.profile.now c.axis_on-count.ensures.count c.axis_on-count.ensures.lawful c.requires.axis c.axis_on-count.ensures.few c.requires.profile in
     let same = made c.args.domain.now c.args.axis c.axis_on-count.result.points c.args.profile.now c.ends.result c.in_ok-pieces.pieces.items h c.axis_on-count.ensures.count c.ends.ensures.ends
     c.in_ok-pieces.ensures in
-    subst (λ pieces. are_pieces_of c.args.domain.now pieces ≡ true) (sym same) (fit c.args.domain.now c.args.axis c.args.profile.now h)
+    subst (λ pieces. IsFunction (record { axes = c.args.domain.now; pieces = pieces })) (sym same) (along_function c.args.domain.now c.args.axis c.args.profile.now c.axis_on-count.ensures.lawful h)
 
-pub no_memory-requires : goal.no_memory-requires
-no_memory-requires c =
+pub returns-clause-pieces : goal.returns-clause-pieces
+returns-clause-pieces c =
     let h = ready c.args.domain.now c.args.axis c.axis_on-count.result.points c.args.profile.now c.axis_on-count.ensures.count c.axis_on-count.ensures.lawful c.requires.axis c.axis_on-count.ensures.few c.requires.profile in
     let same = made c.args.domain.now c.args.axis c.axis_on-count.result.points c.args.profile.now c.ends.result c.in_ok-pieces.pieces.items h c.axis_on-count.ensures.count c.ends.ensures.ends
     c.in_ok-pieces.ensures in
-    made_anyhow c.args.domain.now c.args.axis c.args.profile.now h c.in-Err.fault (subst (λ pieces. MadeFunction c.args.domain.now pieces (Err c.in-Err.fault)) same c.in-Err.ensures)
+    c.in_ok-func.ensures ∙ ap (λ pieces. record { axes = c.args.domain.now; pieces = pieces }) same
 
-pub returns-in-Ok-clause-pieces : goal.returns-in-Ok-clause-pieces
-returns-in-Ok-clause-pieces c =
+pub returns-clause-value : goal.returns-clause-value
+returns-clause-value c p inside =
     let h = ready c.args.domain.now c.args.axis c.axis_on-count.result.points c.args.profile.now c.axis_on-count.ensures.count c.axis_on-count.ensures.lawful c.requires.axis c.axis_on-count.ensures.few c.requires.profile in
     let same = made c.args.domain.now c.args.axis c.axis_on-count.result.points c.args.profile.now c.ends.result c.in_ok-pieces.pieces.items h c.axis_on-count.ensures.count c.ends.ensures.ends
     c.in_ok-pieces.ensures in
-    c.in-Ok.ensures.3 ∙ ap (λ pieces. record { axes = c.args.domain.now; pieces = pieces }) same
+    ap (λ func. value_at func.pieces p) c.in_ok-func.ensures ∙ ap (λ pieces. value_at pieces p) same ∙ value c.args.domain.now c.args.axis c.args.profile.now h p inside
 
-pub returns-in-Ok-clause-value : goal.returns-in-Ok-clause-value
-returns-in-Ok-clause-value c p inside =
+pub returns-clause-few : goal.returns-clause-few
+returns-clause-few c =
     let h = ready c.args.domain.now c.args.axis c.axis_on-count.result.points c.args.profile.now c.axis_on-count.ensures.count c.axis_on-count.ensures.lawful c.requires.axis c.axis_on-count.ensures.few c.requires.profile in
     let same = made c.args.domain.now c.args.axis c.axis_on-count.result.points c.args.profile.now c.ends.result c.in_ok-pieces.pieces.items h c.axis_on-count.ensures.count c.ends.ensures.ends
     c.in_ok-pieces.ensures in
-    ap (λ func. value_at func.pieces p) c.in-Ok.ensures.3 ∙ ap (λ pieces. value_at pieces p) same ∙ value c.args.domain.now c.args.axis c.args.profile.now h p inside
-
-pub returns-in-Ok-clause-few : goal.returns-in-Ok-clause-few
-returns-in-Ok-clause-few c =
-    let h = ready c.args.domain.now c.args.axis c.axis_on-count.result.points c.args.profile.now c.axis_on-count.ensures.count c.axis_on-count.ensures.lawful c.requires.axis c.axis_on-count.ensures.few c.requires.profile in
-    let same = made c.args.domain.now c.args.axis c.axis_on-count.result.points c.args.profile.now c.ends.result c.in_ok-pieces.pieces.items h c.axis_on-count.ensures.count c.ends.ensures.ends
-    c.in_ok-pieces.ensures in
-    subst (λ (func : Function). length func.pieces ≤ 9) (sym (c.in-Ok.ensures.3 ∙ ap (λ pieces. record { axes = c.args.domain.now; pieces = pieces }) same)) (few_pieces c.args.domain.now c.args.axis c.args.profile.now h)
+    subst (λ (func : Function). length func.pieces ≤ 9) (sym (c.in_ok-func.ensures ∙ ap (λ pieces. record { axes = c.args.domain.now; pieces = pieces }) same)) (few_pieces c.args.domain.now c.args.axis c.args.profile.now h)

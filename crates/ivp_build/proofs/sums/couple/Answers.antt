@@ -2,9 +2,9 @@ use Rattle.std.proofs.Common.{List, length, ◌≤◌, ap, subst, sym, ◌∙◌
 use Rattle.ivp_domain.specs.declared.axis.Axis.{Axis}
 use Rattle.ivp_func.specs.declared.piece.Piece.{Piece}
 use Rattle.ivp_func.specs.Functions.{Function}
-use Rattle.ivp_func.specs.Pieces.{are_pieces_of, is_piece_of, value_at}
+use Rattle.ivp_func.specs.Pieces.{is_piece_of, value_at}
 use Rattle.ivp_build.proofs.Meets.{couple_all, couple_many, couple_more}
-use Rattle.ivp_build.proofs.Totals.{AreCoupled, couple_fits, couple_made, couple_value, coupled}
+use Rattle.ivp_build.proofs.Totals.{AreCoupled, couple_function, couple_value, coupled}
 use Rattle.ivp_build.proofs.sums.couple.Goals as goal
 
 pub returns-in-Err-clause-many : goal.returns-in-Err-clause-many
@@ -17,17 +17,11 @@ loop-number-preserved c =
       few = c.in_default.ensures.few;
     }
 
-pub make-requires : goal.make-requires
-make-requires c =
+pub of_pieces-requires : goal.of_pieces-requires
+of_pieces-requires c =
     let both : AreCoupled c.args.f.now.axes c.args.f.now.pieces c.args.g.now.pieces = coupled c.args.f.now c.args.g.now c.func_law.ensures c.func_law-2.ensures c.requires.domain c.requires.room c.requires.apart in
     let all = couple_all c.args.f.now.pieces c.args.g.now.pieces c.loop-number.number c.loop-number.pieces.items (omega arith) c.loop-number.invariant.added in
-    ap (λ (axes : List Axis). are_pieces_of axes c.loop-number.pieces.items) c.domain.ensures ∙ ap (are_pieces_of c.args.f.now.axes) all ∙ couple_fits c.args.f.now.axes c.args.f.now.pieces c.args.g.now.pieces both
-
-pub no_memory-requires : goal.no_memory-requires
-no_memory-requires c =
-    let both : AreCoupled c.args.f.now.axes c.args.f.now.pieces c.args.g.now.pieces = coupled c.args.f.now c.args.g.now c.func_law.ensures c.func_law-2.ensures c.requires.domain c.requires.room c.requires.apart in
-    let all = couple_all c.args.f.now.pieces c.args.g.now.pieces c.loop-number.number c.loop-number.pieces.items (omega arith) c.loop-number.invariant.added in
-    couple_made c.args.f.now.axes c.domain.result c.args.f.now.pieces c.args.g.now.pieces c.loop-number.pieces.items both c.domain.ensures all c.loop-number.invariant.few c.in-Err-make.fault c.in-Err-make.ensures
+    couple_function c.args.f.now.axes c.domain.result c.args.f.now.pieces c.args.g.now.pieces c.loop-number.pieces.items both c.domain.ensures all c.loop-number.invariant.few
 
 pub add_sums-requires-clause-one : goal.add_sums-requires-clause-one
 add_sums-requires-clause-one c = ap (λ (axes : List Axis). is_piece_of axes c.piece.result) (sym c.requires.domain) ∙ c.piece.ensures.fits
@@ -36,7 +30,7 @@ pub returns-in-Ok-clause-pieces : goal.returns-in-Ok-clause-pieces
 returns-in-Ok-clause-pieces c =
     let all = couple_all c.args.f.now.pieces c.args.g.now.pieces c.loop-number.number c.loop-number.pieces.items (omega arith) c.loop-number.invariant.added in
     let made = c.in-Ok.ensures in
-    made.3 ∙ ap (λ axes. record { axes = axes; pieces = c.loop-number.pieces.items }) c.domain.ensures ∙ ap (λ pieces. record { axes = c.args.f.now.axes; pieces = pieces }) all
+    made ∙ ap (λ axes. record { axes = axes; pieces = c.loop-number.pieces.items }) c.domain.ensures ∙ ap (λ pieces. record { axes = c.args.f.now.axes; pieces = pieces }) all
 
 pub returns-in-Ok-clause-few : goal.returns-in-Ok-clause-few
 returns-in-Ok-clause-few c =
@@ -48,4 +42,4 @@ returns-in-Ok-clause-value c = λ p inside.
     let both : AreCoupled c.args.f.now.axes c.args.f.now.pieces c.args.g.now.pieces = coupled c.args.f.now c.args.g.now c.func_law.ensures c.func_law-2.ensures c.requires.domain c.requires.room c.requires.apart in
     let all = couple_all c.args.f.now.pieces c.args.g.now.pieces c.loop-number.number c.loop-number.pieces.items (omega arith) c.loop-number.invariant.added in
     let made = c.in-Ok.ensures in
-    ap (λ (f : Function). value_at f.pieces p) made.3 ∙ ap (λ (xs : List Piece). value_at xs p) all ∙ couple_value c.args.f.now.axes c.args.f.now.pieces c.args.g.now.pieces both p inside
+    ap (λ (f : Function). value_at f.pieces p) made ∙ ap (λ (xs : List Piece). value_at xs p) all ∙ couple_value c.args.f.now.axes c.args.f.now.pieces c.args.g.now.pieces both p inside

@@ -2,7 +2,7 @@ use Rattle.std.proofs.Common.{◌≡◌, List, false, ap, ◌∙◌, sym, subst,
 use Rattle.std.proofs.lemmas.Int.{ints}
 use Rattle.ivp_func.specs.declared.piece.Piece.{Piece}
 use Rattle.ivp_func.specs.Cells.{IsGrid}
-use Rattle.ivp_func.specs.Functions.{HasValues, IsPartition, IsTop}
+use Rattle.ivp_func.specs.Functions.{HasValues, IsPartition}
 use Rattle.ivp_func.specs.Pieces.{are_pieces_of, count_at, is_value, value_at}
 use Rattle.ivp_func.proofs.Seeking.{ok_some}
 use Rattle.ivp_func.proofs.func.Func.make.Goals as goal
@@ -38,12 +38,6 @@ returns-in_default-grid c =
       subst (λ xs. HasValues axes xs) c.deref-3.ensures.value c.in_default-point_out.ensures.none,
     )
 
-pub top-top-requires-clause-fit : goal.top-top-requires-clause-fit
-top-top-requires-clause-fit c = ap (are_pieces_of c.args.domain.now) c.deref-4.ensures.value ∙ c.requires
-
-pub top-top-requires-clause-partition : goal.top-top-requires-clause-partition
-top-top-requires-clause-partition c = subst (λ xs. IsPartition c.args.domain.now xs) (c.deref-2.ensures.value ∙ sym c.deref-4.ensures.value) c.in_default.ensures.none
-
 pub returns-in-Ok : goal.returns-in-Ok
 returns-in-Ok c =
     let axes = c.args.domain.now in (
@@ -61,22 +55,21 @@ returns-in-Err c =
       subst (λ xs. HasValues axes xs) c.deref-3.ensures.value c.in_default-point_out.ensures.none,
     )
 
-pub of-requires : goal.of-requires
-of-requires c =
+pub with_grid-requires-clause-function : goal.with_grid-requires-clause-function
+with_grid-requires-clause-function c =
     let axes = c.args.domain.now in
-    let kept : to_z w64 (of_z w64 c.top-top.result) ≡ c.top-top.result = omega (arith, ints) in
     record {
-      function =
-          record {
-            domain = c.in_default.ensures.domain;
-            few = search rules;
-            pieces = c.requires;
-            partition = subst (λ xs. IsPartition axes xs) c.deref-2.ensures.value c.in_default.ensures.none;
-            values = subst (λ xs. HasValues axes xs) c.deref-3.ensures.value c.in_default-point_out.ensures.none;
-          };
-      top = subst (λ v. IsTop axes c.args.pieces.items v) (sym kept) (subst (λ xs. IsTop axes xs c.top-top.result) c.deref-4.ensures.value c.top-top.ensures);
-      grid = subst (λ (xs : List Piece). IsGrid axes xs c.in-Some-grid.grid) c.deref.ensures.value (ok_some (IsGrid axes c.deref.result.now) c.make.result c.in-Some-grid.grid (sym c.ok-grid.ensures.value ∙ c.in-Some-grid.is) c.make.ensures);
+      domain = c.in_default.ensures.domain;
+      few = search rules;
+      pieces = c.requires;
+      partition = subst (λ xs. IsPartition axes xs) c.deref-2.ensures.value c.in_default.ensures.none;
+      values = subst (λ xs. HasValues axes xs) c.deref-3.ensures.value c.in_default-point_out.ensures.none;
     }
+
+pub with_grid-requires-clause-grid : goal.with_grid-requires-clause-grid
+with_grid-requires-clause-grid c =
+    let axes = c.args.domain.now in
+    subst (λ (xs : List Piece). IsGrid axes xs c.in-Some-grid.grid) c.deref.ensures.value (ok_some (IsGrid axes c.deref.result.now) c.make.result c.in-Some-grid.grid (sym c.ok-grid.ensures.value ∙ c.in-Some-grid.is) c.make.ensures)
 
 pub returns-in-Some-point_out : goal.returns-in-Some-point_out
 returns-in-Some-point_out c =
