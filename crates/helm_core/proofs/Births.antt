@@ -30,7 +30,7 @@ abbrev AreBefore : ℕ → ℕ → List BhvSoFar → Type 0
 AreBefore at letter ones = Each (λ (one : BhvSoFar). IsBefore at letter one.born) ones
 
 -- these blocks' behaviours come first, and then made ones, each by a later letter than the one before it
-abbrev AreInOrder : List Block → List BhvSoFar → Type 0
+abbrev pub AreInOrder : List Block → List BhvSoFar → Type 0
 AreInOrder [] ones = AreMadeBehind None ones
 AreInOrder (block ∷ file) [] = ⊥
 AreInOrder (block ∷ file) (one ∷ ones) = (one.block ≡ block) × (one.born ≡ None) × AreInOrder file ones
@@ -136,7 +136,7 @@ made_after axes seen fault before before' (one ∷ ones) same order =
     let born = (begun_same axes seen one).2 in
     (subst (λ b. IsBornBehind b (begun_at axes seen one).standing.born) (sym same) (subst (IsBornBehind before) (sym born) order.0), made_after axes seen fault one.born (begun_at axes seen one).standing.born ones born order.1)
 
-order_after : (axes : List Axis) (seen : Seen) (fault : Bool) (file : List Block) (ones : List BhvSoFar) → AreInOrder file ones → AreInOrder file (map (bhv_after seen fault) (map (begun_at axes seen) ones))
+pub order_after : (axes : List Axis) (seen : Seen) (fault : Bool) (file : List Block) (ones : List BhvSoFar) → AreInOrder file ones → AreInOrder file (map (bhv_after seen fault) (map (begun_at axes seen) ones))
 order_after axes seen fault [] ones order = made_after axes seen fault None None ones refl order
 order_after axes seen fault (block ∷ file) [] order = absurd order
 order_after axes seen fault (block ∷ file) (one ∷ ones) order =
@@ -159,7 +159,7 @@ behind_on before None (Some other) a b = absurd a
 behind_on None (Some one) (Some other) a b = tt
 behind_on (Some before) (Some one) (Some other) a b = earlier_on before one other a b
 
-made_behind : (before one : Option Birth) (rest : List BhvSoFar) → IsBornBehind before one → AreMadeBehind one rest → AreMadeBehind before rest
+pub made_behind : (before one : Option Birth) (rest : List BhvSoFar) → IsBornBehind before one → AreMadeBehind one rest → AreMadeBehind before rest
 made_behind before one [] a order = tt
 made_behind before one (other ∷ rest) a order = (behind_on before one other.born a order.0, order.1)
 
@@ -188,7 +188,7 @@ before_first : (file : List Block) → AreBefore 0 0 (map unstarted file)
 before_first [] = tt
 before_first (block ∷ file) = (tt, before_first file)
 
-abbrev file_of : Plan → List Block
+abbrev pub file_of : Plan → List Block
 file_of plan = filter (λ (block : Block). not (is_template block)) plan.blocks
 
 spawned_ordered : (plan : Plan) (ticks : List Tick) (i : ℕ) (ones : List BhvSoFar) → IsOrdered (file_of plan) i (none_spawned ones) → IsOrdered (file_of plan) i (spawned_in plan ticks i ones)

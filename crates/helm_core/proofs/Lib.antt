@@ -11,6 +11,7 @@ pub mod Spawns
 pub mod Letters
 pub mod Listing
 pub mod Births
+pub mod Presence
 pub mod Turning
 pub mod Serving
 pub mod Doing

@@ -4,6 +4,7 @@ pub mod Behaviors
 pub mod Doers
 pub mod Templates
 pub mod Lists
+pub mod Presence
 pub mod PastIterations
 pub mod Decisions
 pub mod Posts

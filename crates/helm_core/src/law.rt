@@ -5,6 +5,7 @@ ghost use Rattle.helm_core.specs.Plans.{Plan};
 ghost use Rattle.helm_core.specs.Ticks.{Tick};
 ghost use Rattle.helm_core.specs.Iterations.{iteration_at};
 ghost use Rattle.helm_core.specs.Lists.{AlwaysListed};
+ghost use Rattle.helm_core.specs.Presence.{ThereUntilComplete};
 ghost use Rattle.helm_core.specs.Names.{OneOfEachContact, ResolvedLeave, ValidFilesNameOnce};
 ghost use Rattle.helm_core.specs.WellFormed.{ValidFilesPlanWell};
 ghost use Rattle.helm_core.specs.Worths.{ValidFilesDecideByWorth};
@@ -16,9 +17,11 @@ pub fn iterations_law()
 
 /// What holds of the list of a helm's behaviours in each iteration, whatever it hears: the behaviours of the file come first, in
 /// its order, and none of them leaves; then come those that letters made, each by a later letter than the one before it, so no
-/// letter made two of them; and none of these has completed for good. It does nothing.
+/// letter made two of them; and none of these has completed for good. One that a letter made is there exactly from its making
+/// until it completes for good. It does nothing.
 pub fn list_law()
-    ensures { AlwaysListed }
+    ensures listed { AlwaysListed }
+    ensures there { ThereUntilComplete }
 {}
 
 /// What holds of the names in the list of a helm of a valid behaviour file, whatever it hears: in each iteration at most one
