@@ -70,7 +70,7 @@ abbrev pub flags_of : Common → List Pair
 flags_of common = common.runflags ++ (common.idleflags ++ (common.activeflags ++ (common.inactiveflags ++ common.endflags)))
 
 -- What is named in a behaviour has a name's form, and its flags are pairs. It has at most 64 conditions and 32 flags, and lasts
--- at most 1,000,000 seconds or for ever.
+-- at most 1,000,000 seconds or for ever. A template has `updates`.
 pub record IsValidCommon (common : Common) : Type 0 where
   pub name : IsTrue (is_name common.name)
   pub updates : IfSome common.updates (λ name. IsTrue (is_name name))
@@ -79,6 +79,7 @@ pub record IsValidCommon (common : Common) : Type 0 where
   pub few_conds : length common.conds ≤ 64
   pub few_flags : length (flags_of common) ≤ 32
   pub lasts : IfSome common.duration (λ time. time ≤ 10 ^ 9)
+  pub heard : IsTrue common.template → IsTrue (is_some common.updates)
 
 -- A behaviour's parameters are in their ranges, its places are given, and the relations between its parameters hold.
 pub record IsValidSpec (spec : Spec) : Type 0 where

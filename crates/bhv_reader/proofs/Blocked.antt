@@ -1,6 +1,6 @@
 -- A behaviour whose block is read line by line stays good, and is valid at its end.
 use Rattle.std.proofs.Common.{◌≡◌, ℕ, ◌≤◌, ◌<◌, ◌^◌, Bool, true, false, ◌&&◌, ◌||◌, not, nat_le, cond, List, [], ◌∷◌, ◌++◌, length, Option, Some, None, refl, subst, sym, arith, length-append, append-nil, append_assoc, codes, bytes_eq}
-use Rattle.std.specs.Prelude.{◌+◌, IfSome, IfOk, IsTrue, is_none, ok_or, option_map, Result, Ok, Err}
+use Rattle.std.specs.Prelude.{◌+◌, IfSome, IfOk, IsTrue, is_none, is_some, ok_or, option_map, Result, Ok, Err}
 use Rattle.std.specs.List.{All}
 use Rattle.std.proofs.lemmas.Bool.{and_from, and_parts, le-leb, leb-false, lt-leb}
 use Rattle.std.proofs.lemmas.List.Elements.{All-append, All-nil, All-push}
@@ -270,9 +270,15 @@ flags_all a b c d e h = All-append IsPair a (b ++ (c ++ (d ++ e))) h.0 (All-appe
 flags_counted : (a b c d e : List Pair) → length (a ++ (b ++ (c ++ (d ++ e)))) ≡ length a + length b + length c + length d + length e
 flags_counted a b c d e = omega (arith, length-append a (b ++ (c ++ (d ++ e))), length-append b (c ++ (d ++ e)), length-append c (d ++ e), length-append d e)
 
-added_sound : (domain : List Axis) (block : BehaviorBlock) (name : Option (List ℕ)) → IsSoundBehavior domain block → block.behavior.name ≡ name → lacks_places block.behavior.spec.shape ≡ false → keeps_relations block.behavior.spec.shape ≡ true → has_axes domain block.behavior.spec.shape ≡ true → suits domain block.behavior.spec.shape ≡ true → IfOk (with_block block name) (IsSoundFile domain)
-added_sound domain block None sound named given relations axes suited = tt
-added_sound domain block (Some name) sound named given relations axes suited =
+-- a template that isn't unheard has `updates`
+heard_from : (template : Bool) (updates : Option (List ℕ)) → (template && is_none updates) ≡ false → template ≡ true → is_some updates ≡ true
+heard_from true None heard is = absurd (let e : true ≡ false = heard in cc)
+heard_from true (Some name) heard is = refl
+heard_from false updates heard is = absurd (let e : false ≡ true = is in cc)
+
+added_sound : (domain : List Axis) (block : BehaviorBlock) (name : Option (List ℕ)) → IsSoundBehavior domain block → block.behavior.name ≡ name → is_unheard block.behavior ≡ false → lacks_places block.behavior.spec.shape ≡ false → keeps_relations block.behavior.spec.shape ≡ true → has_axes domain block.behavior.spec.shape ≡ true → suits domain block.behavior.spec.shape ≡ true → IfOk (with_block block name) (IsSoundFile domain)
+added_sound domain block None sound named heard given relations axes suited = tt
+added_sound domain block (Some name) sound named heard given relations axes suited =
     cond_good (IsSoundFile domain) (nat_le 64 (length block.file.blocks)) (Err B9) (Ok (record block.file { blocks = block.file.blocks ++ new ∷ [] })) (λ _. tt)
     (λ room. let below = leb-false 64 (length block.file.blocks) room in
     record {
@@ -307,10 +313,17 @@ added_sound domain block (Some name) sound named given relations axes suited =
         few_conds = sound.draft.few_conds;
         few_flags = omega (arith, sound.draft.few_flags, flags_counted b.runflags b.idleflags b.activeflags b.inactiveflags b.endflags);
         lasts = sound.draft.lasts;
+        heard = heard_from b.template b.updates heard;
       };
       spec = record { ranges = record { weight = sound.draft.weight; parameters = whole_ranges block.behavior.spec.shape sound.draft.ranges given }; given = given; relations = relations };
       named = free.1;
     }
+
+third_false : (a b c d : Bool) → (a || b || c || d) ≡ false → c ≡ false
+third_false true b c d h = absurd cc
+third_false false true c d h = absurd cc
+third_false false false true d h = absurd cc
+third_false false false false d h = refl
 
 last_false : (a b c d : Bool) → (a || b || c || d) ≡ false → d ≡ false
 last_false true b c d h = absurd cc
@@ -325,7 +338,8 @@ good_sound domain block true relations suited axes sound u r s a = tt
 good_sound domain block false false suited axes sound u r s a = tt
 good_sound domain block false true false axes sound u r s a = tt
 good_sound domain block false true true false sound u r s a = tt
-good_sound domain block false true true true sound u r s a = added_sound domain block block.behavior.name sound refl (last_false (is_none block.behavior.name) (not block.behavior.given) (is_unheard block.behavior) (lacks_places block.behavior.spec.shape) u) r a s
+good_sound domain block false true true true sound u r s a = added_sound domain block block.behavior.name sound refl (third_false (is_none block.behavior.name) (not block.behavior.given) (is_unheard block.behavior) (lacks_places block.behavior.spec.shape) u)
+    (last_false (is_none block.behavior.name) (not block.behavior.given) (is_unheard block.behavior) (lacks_places block.behavior.spec.shape) u) r a s
 
 pub behavior_sound : (domain : List Axis) (block : BehaviorBlock) (behind : List ℕ) → IsSoundBehavior domain block → IfOk (behavior_closed domain block behind) (IsSoundFile domain)
 behavior_sound domain block [] sound =
