@@ -18,7 +18,8 @@ use Rattle.command_line.specs.declared.status.Status.{Status}
 use Rattle.command_line.specs.declared.status.Status.TheVariants.{Done, CheckNo, Usage, LoadFault, WriteFault, Refused, NoMemory}
 use Rattle.command_line.specs.Turns.{FileTurn, loads_of, name_wanted, Ready, Unfit, Wanted, AreLoaded, WasWanted}
 use Rattle.command_line.specs.Jobs.{job_named}
-use Rattle.moos_jobs.specs.Jobs.{IsOutput, Task, outcomes, turn_of}
+use Rattle.moos_jobs.specs.Jobs.{IsOutput, outcomes, turn_of}
+use Rattle.moos_jobs.specs.declared.task.Task.{Task}
 use Rattle.command_line.specs.Endings.{DidFrom, EndsFrom, Surroundings, Ended, Sinking, WroteAll}
 use Rattle.moos_jobs.specs.Run.{Answers, Completes, Declines, EndsWith, Gave, HasFiles, HasRoomFor, IsDoneBut, IsRefusedBut, Misses, Objects, Refuses, Rejects, Succeeds}
 
@@ -45,7 +46,7 @@ one_file files (Ready task) one other was is = absurd was
 one_file files (Unfit kind fault) one other was is = absurd was
 
 -- two lists of files that a job loads up to its end are one
-one_list : (files : List ℕ → Option (List ℕ)) (job : Job) (front one other : List (List ℕ)) → AreLoaded (Some files) (turn_of job) front one → AreLoaded (Some files) (turn_of job) front other
+pub one_list : (files : List ℕ → Option (List ℕ)) (job : Job) (front one other : List (List ℕ)) → AreLoaded (Some files) (turn_of job) front one → AreLoaded (Some files) (turn_of job) front other
     → IsOver (turn_of job (front ++ one)) → IsOver (turn_of job (front ++ other)) → one ≡ other
 one_list files job front [] [] loaded is over last = refl
 one_list files job front [] (bytes ∷ other) loaded is over last =
@@ -67,7 +68,7 @@ over_wanted turn kind name (Good task is) wanted = let both : Ready task ≡ Wan
 over_wanted turn kind name (Bad other fault is) wanted = let both : Unfit other fault ≡ Wanted kind name = sym is ∙ wanted in cc
 
 -- of a job whose files are all there, each file that is wanted on the way is told
-wanted_told : (files : List ℕ → Option (List ℕ)) (job : Job) (front one other : List (List ℕ)) (kind : FileKind) (name : List ℕ) → AreLoaded (Some files) (turn_of job) front one → AreLoaded (Some files) (turn_of job) front other
+pub wanted_told : (files : List ℕ → Option (List ℕ)) (job : Job) (front one other : List (List ℕ)) (kind : FileKind) (name : List ℕ) → AreLoaded (Some files) (turn_of job) front one → AreLoaded (Some files) (turn_of job) front other
     → IsOver (turn_of job (front ++ one)) → turn_of job (front ++ other) ≡ Wanted kind name → (bytes : List ℕ) × (files name ≡ Some bytes)
 wanted_told files job front [] [] kind name loaded is over wanted = absurd (over_wanted (turn_of job (front ++ [])) kind name over wanted)
 wanted_told files job front [] (bytes ∷ other) kind name loaded is over wanted =
@@ -90,7 +91,7 @@ output_of task status sink wrote =
     subst (λ (one : Task). IsOutput one status wrote.text) same wrote.output
 
 -- what was written was read from good files
-none_written : (kind : FileKind) (fault : ReadFault) (task : Task) → Unfit kind fault ≡ Ready task → ⊥
+pub none_written : (kind : FileKind) (fault : ReadFault) (task : Task) → Unfit kind fault ≡ Ready task → ⊥
 none_written kind fault task good = cc
 
 -- two refusals of the same files are one
@@ -103,11 +104,11 @@ one_refusal turn kind line cause refusal bad same =
     λ i. Refused (record { file = kind_same i; line = line_same i; cause = cause_same i })
 
 module _ (words : List (List ℕ)) (run : Surroundings) (job : Job) (files : List (List ℕ)) (has : HasFiles words run job files) where
-  one_job : (other : Job) → job_named words ≡ Some other → other ≡ job
+  pub one_job : (other : Job) → job_named words ≡ Some other → other ≡ job
   one_job other named = let both : Some other ≡ Some job = sym named ∙ has.named in cc
 
   -- what the folder tells of the files that some job of these words loaded
-  told_loads : (other : Job) → other ≡ job → (loads : List (List ℕ)) → AreLoaded run.told (turn_of other) [] loads → AreLoaded (Some has.told) (turn_of job) [] loads
+  pub told_loads : (other : Job) → other ≡ job → (loads : List (List ℕ)) → AreLoaded run.told (turn_of other) [] loads → AreLoaded (Some has.told) (turn_of job) [] loads
   told_loads other same loads loaded = subst (λ told. AreLoaded told (turn_of job) [] loads) has.telling (subst (λ job. AreLoaded run.told (turn_of job) [] loads) same loaded)
 
   -- the job that the words name ended by what its files are told to hold
@@ -208,7 +209,7 @@ declines words run status ran job files kind line cause held bad =
     is_refused words run job files held.has kind line cause status bad (loads_all words run job files held.has held.sure (Bad kind (At line cause) bad)) ran
 
 -- the loads of a job tell its files
-heard_files : (job : Job) (front one other : List (List ℕ)) → loads_of (turn_of job) front one ≡ loads_of (turn_of job) front other → one ≡ other
+pub heard_files : (job : Job) (front one other : List (List ℕ)) → loads_of (turn_of job) front one ≡ loads_of (turn_of job) front other → one ≡ other
 heard_files job front [] [] same = refl
 heard_files job front [] (more ∷ other) same = absurd cc
 heard_files job front (bytes ∷ one) [] same = absurd cc
@@ -237,7 +238,7 @@ none_failed job front (bytes ∷ files) (load ∷ loads) name same =
     none_failed job (front ++ bytes ∷ []) files loads name rest
 
 module _ (words : List (List ℕ)) (run : Surroundings) (job : Job) (files : List (List ℕ)) (gave : Gave words run job files) where
-  job_given : (other : Job) → job_named words ≡ Some other → other ≡ job
+  pub job_given : (other : Job) → job_named words ≡ Some other → other ≡ job
   job_given other named = let both : Some other ≡ Some job = sym named ∙ gave.named in cc
 
   given_with : (turn : FileTurn Task) → turn_of job files ≡ turn → (status : Status) (other : Job) (loads : List (List ℕ)) → job_named words ≡ Some other

@@ -14,7 +14,7 @@ use Rattle.command_line.specs.declared.status.FileKind.TheVariants.{Problem as P
 use Rattle.command_line.specs.declared.status.Status.{Status}
 use Rattle.command_line.specs.declared.status.Status.TheVariants.{Done, CheckNo, Usage, LoadFault, WriteFault, Refused, NoMemory}
 use Rattle.moos_jobs.specs.Jobs.{IsOutput}
-use Rattle.moos_jobs.specs.Jobs.Task.{Solving}
+use Rattle.moos_jobs.specs.declared.task.Task.TheVariants.{Solving}
 use Rattle.command_line.specs.Endings.{Surroundings, surroundings, Sinking, sinking}
 use Rattle.moos_jobs.specs.Run.{EndsWith, HasRoomFor, IsHeld}
 use Rattle.moos_jobs.proofs.Endings.{declines, output_of, succeeds}

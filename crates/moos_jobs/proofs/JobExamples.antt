@@ -26,7 +26,7 @@ use Rattle.moos_io.specs.Faults.{Faring}
 use Rattle.command_line.specs.declared.job.Job.TheVariants.{Play, Solve, Check}
 use Rattle.command_line.specs.declared.status.FileKind.TheVariants.{Script as ScriptFile, Mission as MissionFile, Behaviors as BehaviorsFile, Problem as ProblemFile, Decision as DecisionFile}
 use Rattle.command_line.specs.declared.status.Status.TheVariants.{Done, CheckNo, Usage, WriteFault, Refused}
-use Rattle.moos_jobs.specs.Jobs.Task.{Checking, Playing, Solving}
+use Rattle.moos_jobs.specs.declared.task.Task.TheVariants.{Checking, Playing, Solving}
 use Rattle.command_line.specs.Turns.{Ready, Unfit, Wanted}
 use Rattle.moos_jobs.specs.Jobs.{IsAccepted, IsOutput, outcomes, turn_of}
 use Rattle.moos_jobs.specs.HelmFiles.{with_few_ticks}

@@ -6,7 +6,7 @@ use Rattle.script_reader.specs.declared.script.Order.TheVariants.{Stamp}
 use Rattle.command_line.specs.declared.job.Job.TheVariants.{Play}
 use Rattle.command_line.specs.declared.status.Status.{Status}
 use Rattle.command_line.specs.declared.status.Status.TheVariants.{Done, NoMemory}
-use Rattle.moos_jobs.specs.Jobs.Task.{Playing}
+use Rattle.moos_jobs.specs.declared.task.Task.TheVariants.{Playing}
 use Rattle.command_line.specs.Turns.{Ready}
 use Rattle.moos_jobs.specs.Jobs.{IsPartOutput, outcomes, turn_of}
 use Rattle.command_line.specs.Endings.{DidFrom, Surroundings, surroundings, Ended, WroteAll}

@@ -14,7 +14,7 @@ use Rattle.moos_jobs.specs.Jobs.{IsLawfulWith, IsPartOutput, IsReport, report_on
 use Rattle.moos_jobs.proofs.HelmCommunities.{AreGoodFiles, stand_on_lines}
 use Rattle.moos_jobs.specs.declared.helm_files.HelmFiles.{HelmFiles}
 use Rattle.moos_jobs.specs.HelmFiles.{setup_of, helm_setup_by}
-use Rattle.moos_jobs.specs.Jobs.Task.{Playing}
+use Rattle.moos_jobs.specs.declared.task.Task.TheVariants.{Playing}
 use Rattle.command_line.specs.declared.status.Status.{Status}
 use Rattle.command_line.specs.Endings.{Ended, Sinking}
 use Rattle.moos_jobs.specs.PlayTelling.{IsFrontOfLawful, IsOfLawful, TellsLawful}

@@ -15,7 +15,7 @@ use Rattle.command_line.specs.declared.status.FileKind.{FileKind}
 use Rattle.command_line.specs.declared.status.FileKind.TheVariants.{Problem as ProblemFile}
 use Rattle.command_line.specs.declared.status.Status.{Status}
 use Rattle.command_line.specs.declared.status.Status.TheVariants.{Done, CheckNo, Usage, LoadFault, WriteFault, Refused, NoMemory}
-use Rattle.moos_jobs.specs.Jobs.Task.{Checking, Solving}
+use Rattle.moos_jobs.specs.declared.task.Task.TheVariants.{Checking, Solving}
 use Rattle.command_line.specs.Turns.{Ready, turn_behind, Unfit, Wanted, HasBytes}
 use Rattle.moos_jobs.specs.Jobs.{IsPartOutput, outcomes, turn_of}
 use Rattle.command_line.specs.Endings.{DidFrom, Surroundings, surroundings, Ended, WroteAll}

@@ -12,7 +12,8 @@ use Rattle.moos_report.specs.Report.{Reported, TwoReportsTell}
 use Rattle.moos_report.specs.Setups.{setup_without_helm}
 use Rattle.moos_share.specs.Bridged.{bridge_number, IsShared, names_bridged}
 use Rattle.script_reader.specs.declared.script.Script.{Script}
-use Rattle.moos_jobs.specs.Sharing.{AreReports, both_reports, IsWithoutBridge, ShareTask}
+use Rattle.moos_jobs.specs.Sharing.{AreReports, both_reports, IsWithoutBridge}
+use Rattle.moos_jobs.specs.declared.task.ShareTask.{ShareTask}
 
 -- a community with the bridge, and its history, of which a report is printed
 abbrev reported : (script : Script) (history : History) → IsWithoutBridge script → AreEntries script history → Reported

@@ -38,7 +38,8 @@ use Rattle.sim_vehicle.specs.declared.setting.CraftSetting.TheVariants.{MaxRudde
 use Rattle.sim_vehicle.specs.declared.settings.CraftSettings.{CraftSettings}
 use Rattle.sim_vehicle.specs.Motion.{IsHull, start_hull}
 use Rattle.sim_vehicle.specs.Settings.{AreAllowed}
-use Rattle.moos_jobs.specs.Simulating.{helm_sailed, IsSailed, KeepsInRange, names_sailed, Simulation, voyage_text}
+use Rattle.moos_jobs.specs.Simulating.{helm_sailed, IsSailed, KeepsInRange, names_sailed, voyage_text}
+use Rattle.moos_jobs.specs.declared.task.Simulation.{Simulation}
 
 -- ---- what the clients that answer say
 

@@ -19,7 +19,8 @@ use Rattle.moos_text.specs.declared.cause.ReadFault.TheVariants.{At, NoMemory as
 use Rattle.moos_text.specs.Refusals.{and_then, IsFirst}
 use Rattle.script_reader.specs.declared.script.Script.{Script}
 use Rattle.script_reader.specs.Validity.{IsValid}
-use Rattle.moos_jobs.specs.Simulating.{helm_sailed, IsFrontOfVoyage, IsOfSimulation, IsSailed, IsVoyage, iterations_sailed, names_sailed, Simulation, voyage_text}
+use Rattle.moos_jobs.specs.Simulating.{helm_sailed, IsFrontOfVoyage, IsOfSimulation, IsSailed, IsVoyage, iterations_sailed, names_sailed, voyage_text}
+use Rattle.moos_jobs.specs.declared.task.Simulation.{Simulation}
 
 -- none of the vehicle's clients has the helm's name
 no_helm : (watched : Bool) (client : ℕ) → is_helm (vehicle_names watched) client ≡ false

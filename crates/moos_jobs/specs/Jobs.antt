@@ -30,21 +30,12 @@ use Rattle.command_line.specs.declared.status.Status.{Status}
 use Rattle.command_line.specs.declared.status.Status.TheVariants.{Done, CheckNo}
 use Rattle.script_reader.specs.declared.script.Script.{Script}
 use Rattle.script_reader.specs.Script.{script_of}
-use Rattle.moos_jobs.specs.Sharing.{IsSharing, share_turn, ShareTask}
+use Rattle.moos_jobs.specs.declared.task.Task.{Task}
+use Rattle.moos_jobs.specs.declared.task.Task.TheVariants.{Playing, Solving, Checking, Generating, Sharing, Simulating}
+use Rattle.moos_jobs.specs.Sharing.{IsSharing, share_turn}
 use Rattle.moos_jobs.specs.Steering.{SteersWell}
 use Rattle.moos_jobs.specs.PrintedFronts.{IsFrontPrinted}
-use Rattle.moos_jobs.specs.Simulating.{IsFrontOfVoyage, MayReport, simulate_turn, Simulation}
-
--- what is to be done: a script is played in an order, with a helm or without; a problem is solved, a decision is checked; a
--- mission is made from a number and summed up; two scripts are played with a bridge between their communities; a script is played beside a
--- simulated vehicle
-pub data Task : Type 0 where
-  Playing : Order → Script → Option HelmFiles → Task
-  Solving : WeightedSum → Task
-  Checking : Decision → Task
-  Generating : ℕ → Task
-  Sharing : ShareTask → Task
-  Simulating : Simulation → Task
+use Rattle.moos_jobs.specs.Simulating.{IsFrontOfVoyage, MayReport, simulate_turn}
 
 -- a script and a helm are all that a play needs
 abbrev pub helm_played : Order → Script → HelmFiles → List (List ℕ) → FileTurn Task

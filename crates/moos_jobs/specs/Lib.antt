@@ -11,3 +11,4 @@ pub mod Steering
 pub mod Generating
 pub mod Jobs
 pub mod Run
+pub mod Preparing

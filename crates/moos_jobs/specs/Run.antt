@@ -12,7 +12,8 @@ use Rattle.command_line.specs.declared.status.Status.TheVariants.{Usage, LoadFau
 use Rattle.command_line.specs.Endings.{EndsFrom, IsUntouched, Sinking, Surroundings, WroteAll}
 use Rattle.command_line.specs.Jobs.{job_named}
 use Rattle.command_line.specs.Turns.{AreLoaded, loads_of, Ready, Unfit, Wanted}
-use Rattle.moos_jobs.specs.Jobs.{IsOutput, Task, outcomes, turn_of}
+use Rattle.moos_jobs.specs.Jobs.{IsOutput, outcomes, turn_of}
+use Rattle.moos_jobs.specs.declared.task.Task.{Task}
 
 -- the words name a job, which begins without a file and ends so
 pub record DidJob (words : List (List ℕ)) (run : Surroundings) (status : Status) : Type 0 where

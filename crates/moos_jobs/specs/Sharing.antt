@@ -12,6 +12,7 @@ use Rattle.moos_bridged.specs.LeftOut.{HasCarriedEach, IsCarried}
 use Rattle.moos_post.specs.History.{History}
 use Rattle.moos_report.specs.Report.{report_text}
 use Rattle.moos_report.specs.Setups.{setup_without_helm}
+use Rattle.moos_jobs.specs.declared.task.ShareTask.{ShareTask}
 use Rattle.moos_share.specs.Bridged.{bridge_number, IsShared, names_bridged}
 use Rattle.moos_share.specs.BridgeFiles.{rules_of}
 use Rattle.moos_share.specs.LongNames.{too_long_line}
@@ -25,14 +26,6 @@ use Rattle.script_reader.specs.declared.script.Script.{Script}
 use Rattle.script_reader.specs.Named.{has_name, line_of_client}
 use Rattle.script_reader.specs.Script.{script_of}
 use Rattle.script_reader.specs.Validity.{IsValid}
-
--- what is to be done: two scripts are played at once, in an order, with a bridge of these rules from the first one's community to the
--- second one's
-pub record ShareTask : Type 0 where
-  pub order : Order
-  pub first : Script
-  pub second : Script
-  pub rules : List Rule
 
 -- the script of these bytes, unless a line of them is of a client with the bridge's name: then the first such line is refused
 abbrev pub unless_of_bridge : List ℕ → Script → Result Script ReadFault

@@ -10,6 +10,7 @@ use Rattle.contact_avoid.specs.RangeFiles.{ranges_of}
 use Rattle.helm_core.specs.declared.iteration.Iteration.{Iteration}
 use Rattle.helm_core.specs.Plans.{plan_made}
 use Rattle.moos_jobs.specs.declared.helm_files.HelmFiles.{HelmFiles}
+use Rattle.moos_jobs.specs.declared.task.Simulation.{Simulation}
 use Rattle.moos_jobs.specs.HelmFiles.{setup_of, helm_setup_by}
 use Rattle.moos_jobs.specs.Loading.{helm_turn}
 use Rattle.moos_jobs.specs.PrintedFronts.{IsFrontPrinted}
@@ -36,12 +37,6 @@ use Rattle.sim_vehicle.specs.Steering.{Lies}
 use Rattle.sim_vehicle.specs.Vehicles.{vehicle_of}
 
 -- ---- the files
-
--- what is to be simulated: a script, beside a helm of these files, which steers a vehicle of this gear
-pub record Simulation : Type 0 where
-  pub script : Script
-  pub files : HelmFiles
-  pub gear : Gear
 
 -- the script is refused at a line of a client of the vehicle, if there is one
 abbrev pub refused_at : Option ℕ → Script → Result Script ReadFault

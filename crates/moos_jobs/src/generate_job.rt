@@ -6,7 +6,7 @@ ghost use Rattle.mission_maker.specs.Generated.{generated_script};
 ghost use Rattle.mission_maker.specs.Stamps.{rise_within};
 ghost use Rattle.moos_jobs.specs.Generating.{IsSurvey, WasGenerated};
 ghost use Rattle.moos_jobs.specs.Jobs.{outcomes};
-ghost use Rattle.moos_jobs.specs.Jobs.Task.{Generating};
+ghost use Rattle.moos_jobs.specs.declared.task.Task.TheVariants.{Generating};
 ghost use Rattle.moos_jobs.specs.Summary.{AreBoundedCounts, iterations_counted};
 ghost use Rattle.moos_play.specs.Lawful.{names_with, opening};
 ghost use Rattle.moos_play.specs.Plays.{clients_in, GoesOnWith, helm_in, history_in, IsBetween, IsPlayedOut, iterations_made, left_in, script_played};

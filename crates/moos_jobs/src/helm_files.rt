@@ -1,9 +1,7 @@
 // The files of a helm, one after another, and the helm that is made of them.
-ghost use Rattle.std.specs.Prelude.{◌≡◌, ◌≤◌, ℕ, [], List, Option, Some, IfErr, IfOk};
-ghost use Rattle.command_line.specs.Endings.{EndsFrom, sinking, surroundings};
-ghost use Rattle.moos_io.specs.Faults.{Faring};
+ghost use Rattle.std.specs.Prelude.{◌≡◌, ◌≤◌, Some, IfErr, IfOk};
 ghost use Rattle.moos_jobs.specs.HelmFiles.{setup_of, helm_setup_by};
-ghost use Rattle.moos_jobs.specs.Loading.{AreValidFiles, helm_alone, helm_turn, nothing_written, WereLoaded};
+ghost use Rattle.moos_jobs.specs.Loading.{AreValidFiles, HasNotLoaded, helm_alone, helm_turn, WereLoaded};
 ghost use Rattle.moos_play.specs.Lawful.{MayStart, helm_setup_with};
 ghost use Rattle.script_reader.specs.Validity.{IsValid};
 ghost use Rattle.script_reader.specs.declared.script.Script.{Script};
@@ -46,10 +44,7 @@ pub fn load_helm<F: Folder>(
     requires valid { IsValid script.now }
     ensures valid { IfOk result AreValidFiles }
     ensures loaded { IfOk result (WereLoaded (F.told folder.old) (F.heard folder.old) (F.heard folder.new) script.now name.now) }
-    // Whatever the job's sink took before.
-    ensures ends { IfErr result (λ status. (taken : Option (List ℕ)) (faults : Faring) → EndsFrom nothing_written
-        (surroundings (F.told folder.old) (F.sure folder.old) (F.heard folder.old) (F.heard folder.new) (sinking taken taken faults faults))
-        (helm_turn helm_alone script.now name.now) [] status) }
+    ensures ends { IfErr result (HasNotLoaded (F.told folder.old) (F.sure folder.old) (F.heard folder.old) (F.heard folder.new) (helm_turn helm_alone script.now name.now)) }
     ensures same { (F.told folder.new ≡ F.told folder.old) × (F.sure folder.new ≡ F.sure folder.old) }
 {
     let first = match load(alloc, folder, name.bytes()) {

@@ -1,15 +1,19 @@
 // The job that plays a script, with the helm of a mission or without one: its files one after another, and its report.
-ghost use Rattle.std.specs.Prelude.{◌≡◌, ◌≤◌, ◌++◌, ℕ, [], List, None, Some};
-ghost use Rattle.command_line.specs.Endings.{EndsFrom, surroundings, Ended, sinking};
-ghost use Rattle.command_line.specs.Turns.{FileTurn, Ready};
+ghost use Rattle.std.specs.Prelude.{◌≡◌, ◌≤◌, ℕ, None, Some, IfErr, IfOk};
+ghost use Rattle.command_line.specs.Endings.{Ended, sinking};
+ghost use Rattle.command_line.specs.Turns.{Ready};
 ghost use Rattle.command_line.specs.declared.job.Job.TheVariants.{Play};
-ghost use Rattle.moos_jobs.specs.Jobs.{Task, helm_played, outcomes, turn_of};
-ghost use Rattle.moos_jobs.specs.Jobs.Task.{Playing};
-ghost use Rattle.moos_jobs.specs.Loading.{AreValidFiles, helm_turn};
+ghost use Rattle.command_line.specs.declared.status.FileKind.TheVariants.{Script as ScriptFile};
+ghost use Rattle.moos_jobs.specs.Jobs.{outcomes, turn_of};
+ghost use Rattle.moos_jobs.specs.Loading.{AreValidFiles, file_turn, HasLoaded, HasNotLoaded, WasRead};
+ghost use Rattle.moos_jobs.specs.Preparing.{IsGoodTask};
+ghost use Rattle.moos_jobs.specs.declared.task.Task.TheVariants.{Playing};
+ghost use Rattle.script_reader.specs.Script.{script_of};
 ghost use Rattle.script_reader.specs.Validity.{IsValid};
 
 use crate::helm_files::{FittedHelm, HelmFiles, fit_helm, load_helm};
 use crate::play_telling::play_rounds;
+use crate::task::Task;
 use command_line::{FileKind, Status, load, refused, unloaded};
 use helm_core::{names_law, plan_law, worth_law};
 use helm_laws::reliable_law;
@@ -23,62 +27,78 @@ use std::alloc::Global;
 use std::sync::Wait;
 use std::thread::Threads;
 
-/// Loads and reads the script, and plays it: alone, or with the mission of this name. The helm has this many `workers`.
-pub fn play_files<R: Threads + Wait + Sync, F: Folder, K: Sink, G: Gate>(
-    rt: &R,
+/// Loads and reads the script, and, if the mission of this name is to be played too, that and its behaviour file.
+pub fn load_play<F: Folder>(
     alloc: Global,
     name: &Txt,
     mission: &Option<Txt>,
     order: Order,
-    workers: u32,
     folder: &mut F,
-    out: &mut K,
-    gate: &G,
-) -> Status
-    requires few { (1 ≤ workers) × (workers ≤ 16) }
-    ensures ends { EndsFrom outcomes (surroundings (F.told folder.old) (F.sure folder.old) (F.heard folder.old) (F.heard folder.new)
-        (sinking (K.taken out.old) (K.taken out.new) (K.faults out.old) (K.faults out.new))) (turn_of (Play name.now mission.now order workers)) [] result }
+) -> Result<Task, Status>
+    ensures good { IfOk result IsGoodTask }
+    // By however many workers it is played.
+    ensures loaded { IfOk result (λ task. (workers : ℕ) → HasLoaded (F.told folder.old) (F.heard folder.old) (F.heard folder.new) (turn_of (Play name.now mission.now order workers)) task) }
+    ensures ends { IfErr result (λ status. (workers : ℕ) → HasNotLoaded (F.told folder.old) (F.sure folder.old) (F.heard folder.old) (F.heard folder.new) (turn_of (Play name.now mission.now order workers)) status) }
+    ensures same { (F.told folder.new ≡ F.told folder.old) × (F.sure folder.new ≡ F.sure folder.old) }
+{
+    let script = match load_script(alloc, name, folder) {
+        Ok(script) => script,
+        Err(status) => return Err(status),
+    };
+    let Some(mission) = mission else {
+        return Ok(Task::Playing {
+            order,
+            script,
+            helm: None,
+        });
+    };
+    let files = match load_helm(alloc, &script, mission, folder) {
+        Ok(files) => files,
+        Err(status) => return Err(status),
+    };
+    Ok(Task::Playing {
+        order,
+        script,
+        helm: Some(files),
+    })
+}
+
+// Loads and reads the script of this name.
+fn load_script<F: Folder>(alloc: Global, name: &Txt, folder: &mut F) -> Result<Script, Status>
+    ensures valid { IfOk result IsValid }
+    ensures read { IfOk result (WasRead (F.told folder.old) (F.heard folder.old) (F.heard folder.new) name.now script_of) }
+    ensures ends { IfErr result (HasNotLoaded (F.told folder.old) (F.sure folder.old) (F.heard folder.old) (F.heard folder.new) (file_turn ScriptFile name.now script_of)) }
     ensures same { (F.told folder.new ≡ F.told folder.old) × (F.sure folder.new ≡ F.sure folder.old) }
 {
     let bytes = match load(alloc, folder, name.bytes()) {
         Ok(bytes) => bytes,
-        Err(fault) => return unloaded(fault),
+        Err(fault) => return Err(unloaded(fault)),
     };
-    let script = match read_script(alloc, &bytes) {
-        Ok(script) => script,
-        Err(fault) => return refused(FileKind::Script, fault),
-    };
-    match mission {
-        Some(mission) => play_mission(
-            rt, alloc, &script, mission, order, workers, folder, out, gate,
-        ),
-        None => play_alone(rt, alloc, &script, order, out, gate),
+    match read_script(alloc, &bytes) {
+        Ok(script) => Ok(script),
+        Err(fault) => Err(refused(FileKind::Script, fault)),
     }
 }
 
-// Loads and reads the mission of this name and its behaviour file, and plays the script with a helm of both.
-fn play_mission<R: Threads + Wait + Sync, F: Folder, K: Sink, G: Gate>(
+/// Plays the script with the helm of these files or without one, and writes its report as it comes. The helm has this many `workers`.
+pub fn play_script<R: Threads + Wait + Sync, K: Sink, G: Gate>(
     rt: &R,
     alloc: Global,
-    script: &Script,
-    name: &Txt,
     order: Order,
+    script: &Script,
+    helm: Option<HelmFiles>,
     workers: u32,
-    folder: &mut F,
     out: &mut K,
     gate: &G,
 ) -> Status
     requires few { (1 ≤ workers) × (workers ≤ 16) }
-    requires valid { IsValid script.now }
-    // Whichever job the script was loaded for, by where it is with its files.
-    ensures ends { (turn : List (List ℕ) → FileTurn Task) (front : List (List ℕ)) → ((files : List (List ℕ)) → turn (front ++ files) ≡ helm_turn (helm_played order script.now) script.now name.now files)
-        → EndsFrom outcomes (surroundings (F.told folder.old) (F.sure folder.old) (F.heard folder.old) (F.heard folder.new)
-        (sinking (K.taken out.old) (K.taken out.new) (K.faults out.old) (K.faults out.new))) turn front result }
-    ensures same { (F.told folder.new ≡ F.told folder.old) × (F.sure folder.new ≡ F.sure folder.old) }
+    requires good { IsGoodTask (Playing order script.now helm) }
+    ensures { Ended outcomes (Ready (Playing order script.now helm))
+        (sinking (K.taken out.old) (K.taken out.new) (K.faults out.old) (K.faults out.new)) result }
 {
-    match load_helm(alloc, script, name, folder) {
-        Ok(files) => play_helm(rt, alloc, script, files, order, workers, out, gate),
-        Err(status) => status,
+    match helm {
+        Some(files) => play_helm(rt, alloc, script, files, order, workers, out, gate),
+        None => play_alone(rt, alloc, script, order, out, gate),
     }
 }
 

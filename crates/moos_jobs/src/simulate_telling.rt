@@ -3,7 +3,8 @@
 ghost use Rattle.std.specs.Prelude.{◌≡◌, ◌+◌, ◌++◌, ◌^◌, ◌<◌, ◌≤◌, ◌⊎◌, [], true, length, IfErr, IfNone, IfOk, IfSome, OnErr, OnOk, Option, List, Some, ℕ};
 ghost use Rattle.command_line.specs.Endings.{sinking};
 ghost use Rattle.moos_io.specs.BufferedWriting.{IsClear};
-ghost use Rattle.moos_jobs.specs.Simulating.{IsOfSimulation, Simulation, TellsVoyage};
+ghost use Rattle.moos_jobs.specs.Simulating.{IsOfSimulation, TellsVoyage};
+ghost use Rattle.moos_jobs.specs.declared.task.Simulation.{Simulation};
 ghost use Rattle.moos_jobs.specs.Telling.{IsToldSoFar};
 ghost use Rattle.moos_play.specs.Lawful.{MayStart, names_with, helm_setup_with};
 ghost use Rattle.moos_play.specs.Plays.{clients_in, GoesOnWith, helm_in, history_in, iterations_made, left_in, script_played};

@@ -1,7 +1,7 @@
 -- The summary of what was played is put.
 use Rattle.std.proofs.Common.{refl}
 use Rattle.moos_jobs.specs.Jobs.{outcomes}
-use Rattle.moos_jobs.specs.Jobs.Task.{Generating}
+use Rattle.moos_jobs.specs.declared.task.Task.TheVariants.{Generating}
 use Rattle.command_line.specs.declared.status.Status.TheVariants.{Done}
 use Rattle.command_line.proofs.Loading.{nothing_put, put_ends}
 use Rattle.moos_jobs.proofs.Summing.{summarized}

@@ -4,12 +4,13 @@ use Rattle.moos_post.specs.History.{History}
 use Rattle.command_line.proofs.Loading.{nothing_put, put_ends}
 use Rattle.command_line.specs.declared.status.Status.TheVariants.{Done}
 use Rattle.moos_jobs.proofs.ShareReports.{HasEntries, reports_of}
-use Rattle.moos_jobs.specs.Sharing.{community_report, share_outcomes, ShareTask}
+use Rattle.moos_jobs.specs.Sharing.{community_report, share_outcomes}
+use Rattle.moos_jobs.specs.declared.task.ShareTask.{ShareTask}
 use Rattle.moos_jobs.proofs.share_job.share_scripts.Goals as goal
 
 pub returns-in-Ok : goal.returns-in-Ok
 returns-in-Ok g c =
-    let task : ShareTask = record { order = c.args.order; first = c.args.first.now; second = c.args.second.now; rules = c.args.rules } in
+    let task : ShareTask = c.args.task in
     let one : History = c.in-Ok.shared.first.history in
     let two : History = c.in-Ok.shared.second.history in
     let entries : HasEntries task = λ one two. c.entries_law.ensures task.order task.first task.second task.rules one two c.requires.first.valid c.requires.second.valid c.requires.rules in
@@ -20,5 +21,5 @@ returns-in-Ok g c =
     (λ i. community_report (c.in-Ok.ensures.first i) one ++ community_report (c.in-Ok.ensures.second i) two))
     c.report_both.ensures.ok c.report_both.ensures.front c.report_both.ensures.fares c.report_both.ensures.rose c.written.ensures.all c.written.ensures.fault
 
-pub returns-in-Err : goal.returns-in-Err
-returns-in-Err g c = nothing_put share_outcomes _ _ _
+pub returns : goal.returns
+returns g c = nothing_put share_outcomes _ _ _

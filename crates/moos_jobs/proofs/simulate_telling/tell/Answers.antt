@@ -2,7 +2,8 @@
 use Rattle.std.proofs.Common.{subst, sym, ◌∙◌}
 use Rattle.command_line.specs.Endings.{sinking}
 use Rattle.moos_play.specs.Plays.{clients_in, helm_in, script_played}
-use Rattle.moos_jobs.specs.Simulating.{IsOfSimulation, Simulation, TellsVoyage}
+use Rattle.moos_jobs.specs.Simulating.{IsOfSimulation, TellsVoyage}
+use Rattle.moos_jobs.specs.declared.task.Simulation.{Simulation}
 use Rattle.moos_jobs.proofs.simulate_telling.tell.Goals as goal
 
 pub tell_through-status-requires-clause-clear : goal.tell_through-status-requires-clause-clear

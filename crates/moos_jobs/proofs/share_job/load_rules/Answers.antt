@@ -1,0 +1,23 @@
+-- A bridge that couldn't be loaded, or is refused, or was read.
+use Rattle.std.proofs.Common.{◌∙◌, ap, subst, sym}
+use Rattle.command_line.specs.declared.status.FileKind.TheVariants.{Bridge as BridgeFile}
+use Rattle.moos_jobs.proofs.OneFile.{not_good, not_there, was_read}
+use Rattle.moos_text.specs.Refusals.{IsFirst}
+use Rattle.moos_jobs.specs.Sharing.{fitting_of}
+use Rattle.moos_jobs.proofs.share_job.load_rules.Goals as goal
+
+pub returns-in-Err-clause-ends : goal.returns-in-Err-clause-ends
+returns-in-Err-clause-ends g c =
+    not_there _ _ _ BridgeFile c.args.name.now _ (fitting_of c.args.first.now) c.bytes.ensures.value _ c.in-Err.fault c.unloaded.result
+    c.in-Err.ensures.failed c.in-Err.ensures.rose c.in-Err.ensures.unsure c.unloaded.ensures.failed c.unloaded.ensures.memory
+
+pub returns-in-Ok-read_fitting-clause-read : goal.returns-in-Ok-read_fitting-clause-read
+returns-in-Ok-read_fitting-clause-read g c =
+    was_read _ _ _ BridgeFile c.args.name.now _ (fitting_of c.args.first.now) c.bytes.ensures.value c.in-Ok.bytes.items c.in-Ok.ensures.content c.in-Ok.ensures.heard c.in-Ok-read_fitting.rules
+    (ap (fitting_of c.args.first.now) (sym c.deref.ensures.value) ∙ c.in-Ok-read_fitting.ensures.read)
+
+pub returns-clause-ends : goal.returns-clause-ends
+returns-clause-ends g c =
+    let fault = c.in-Err-read_fitting.fault in
+    let first : IsFirst fault (fitting_of c.args.first.now c.in-Ok.bytes.items) = subst (λ bytes. IsFirst fault (fitting_of c.args.first.now bytes)) c.deref.ensures.value c.in-Err-read_fitting.ensures.refused in
+    not_good _ _ _ BridgeFile c.args.name.now _ (fitting_of c.args.first.now) c.bytes.ensures.value c.in-Ok.bytes.items c.in-Ok.ensures.content c.in-Ok.ensures.heard _ fault c.refused.result first c.refused.ensures
